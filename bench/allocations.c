@@ -1,4 +1,5 @@
-/* Two threads allocate and free blocks of 16 to 4,096 bytes. usage: allocations ROUNDS [N]: every Nth block is used, else none. */
+/* Two threads allocate and free blocks of 16 to 4,096 bytes. usage: allocations ROUNDS [N]: every Nth block
+   is used, else none. */
 #include <pthread.h>
 #include <stdlib.h>
 

@@ -2,12 +2,10 @@
 """Writes a trace whose number of races grows with the square of its length to standard output.
 
     hot_traces.py counter N T SEED     T threads add 1 to a variable N times each, without a lock; they change
-                                       places
-                                       between a read and its write, as in a recorded run, so that
-                                       updates are lost
+                                       places between a read and its write, as in a recorded run, so
+                                       that updates are lost
     hot_traces.py progress N T SEED    one thread writes a variable N times, T - 1 others read it each time
-    hot_traces.py mixed N T SEED       N locked updates of 160 variables; 4 variables of statistics without a
-                                       lock
+    hot_traces.py mixed N T SEED       N locked updates of 160 variables; 4 unlocked variables of statistics
     hot_traces.py array N T SEED       N variables, each written by two of T threads at one of 20 locations
     hot_traces.py places N T SEED      T threads access one variable N times in all, at 1,000 locations
 

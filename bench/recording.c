@@ -1,4 +1,5 @@
-/* usage: recording WHAT ROUNDS: threads that do one thing again and again, to measure what recording it costs (recording.py). */
+/* usage: recording WHAT ROUNDS: threads that do one thing again and again, to measure what recording it
+   costs (recording.py). */
 #include <pthread.h>
 #include <stdatomic.h>
 #include <stdlib.h>
@@ -94,8 +95,10 @@ static long calls(long *sum) {
 }
 
 static const struct { const char *name; long (*work)(long *); } kinds[] = {
-    {"own_array", own_array}, {"private_writes", private_writes}, {"shared_table", shared_table}, {"mutex", under_a_mutex},
-    {"atomics", atomics}, {"own_atomics", own_atomics}, {"atomic_lock", lock_of_an_atomic}, {"blocks", blocks}, {"random_order", random_order}, {"calls", calls}};
+    {"own_array", own_array}, {"private_writes", private_writes}, {"shared_table", shared_table},
+    {"mutex", under_a_mutex},
+    {"atomics", atomics}, {"own_atomics", own_atomics}, {"atomic_lock", lock_of_an_atomic},
+    {"blocks", blocks}, {"random_order", random_order}, {"calls", calls}};
 static long (*work)(long *);
 
 static void *run(void *sum) { return work(sum), sum; }

@@ -1,4 +1,5 @@
-/* usage: whole WHAT ROUNDS: programs with one race each, to measure what all of shb-record costs (whole.py). */
+/* usage: whole WHAT ROUNDS: programs with one race each, to measure what all of shb-record
+   costs (whole.py). */
 #include <pthread.h>
 #include <stdatomic.h>
 #include <stdint.h>
@@ -23,7 +24,8 @@ static void compress(const uint8_t *from, uint8_t *to) {
         unsigned hash = (from[at] | from[at + 1] << 8 | from[at + 2] << 16) * 2654435761u >> 20;
         int before = seen[hash], length = 0;
         seen[hash] = at;
-        while (before < at && at + length < BLOCK && length < 255 && from[before + length] == from[at + length]) length++;
+        while (before < at && at + length < BLOCK && length < 255
+               && from[before + length] == from[at + length]) length++;
         *to++ = length > 3 ? length : 0;
         *to++ = length > 3 ? at - before : from[at];
         at += length > 3 ? length : 1;
@@ -32,7 +34,8 @@ static void compress(const uint8_t *from, uint8_t *to) {
 
 /* Words that come again, as text has. */
 static void fill(uint8_t *block, unsigned *seed) {
-    for (int k = 0; k < BLOCK; k++) block[k] = k % 8 && k > 512 ? block[k - 8 * (drawn(seed) >> 30) - 8] : drawn(seed) >> 27;
+    for (int k = 0; k < BLOCK; k++)
+        block[k] = k % 8 && k > 512 ? block[k - 8 * (drawn(seed) >> 30) - 8] : drawn(seed) >> 27;
 }
 
 /* The first thread reads blocks, and takes what the others made of them. */

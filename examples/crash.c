@@ -1,5 +1,5 @@
-/* A crash that comes in some runs: main looks at `order` with the lock, and follows it later without the lock. In other runs the
-   worker has cancelled the order before main looks. */
+/* A crash that comes in some runs: main looks at `order` with the lock, and follows it later without it.
+   In other runs the worker has cancelled the order before main looks. */
 #include <pthread.h>
 #include <stdio.h>
 #include <unistd.h>

@@ -1,5 +1,5 @@
 #!/usr/bin/env python3
-"""Says which files of crates 'rt fmt' would change, and which lines of Python are too long.
+"""Says which files of crates 'rt fmt' would change, and which lines of Python and C are too long.
 
 Each crate is formatted in a copy. `rt ci` refuses one that isn't, but only once it has proved those below it.
 Ends with the line 'N passed, N failed'.
@@ -14,28 +14,28 @@ import sys
 import tempfile
 
 ROOT = pathlib.Path(__file__).resolve().parent.parent
-MOST = 110      # characters in a line of Python
-UNWRAPPED = "recorder/"     # its Python isn't looked at yet
+MOST = 110      # characters in a line of Python or C
+C = re.compile(r"(?!recorder/tests/).*\.[chS]")     # tests name lines of their programs
 
 
-def is_python(name, text):
-    """Whether a file is Python: commands have no ending."""
-    return name.endswith(".py") or bool(re.match("#!.*python", text))
+def is_source(name, text):
+    """Whether a file is Python, of which commands have no ending, or C."""
+    return name.endswith(".py") or bool(re.match("#!.*python", text) or C.fullmatch(name))
 
 
 def too_long(name, text):
-    """The lines of a file of Python that are too long."""
+    """The lines of a file that are too long."""
     return [f"{name}:{number}: {len(line)} characters, and {MOST} are allowed"
             for number, line in enumerate(text.split("\n"), 1) if len(line) > MOST]
 
 
-def python_files(root):
-    """The files of Python that git tracks or would, each with its text."""
+def sources(root):
+    """The files of Python and C that git tracks or would, each with its text."""
     listing = ["git", "-C", root, "ls-files", "-co", "--exclude-standard"]
     for name in subprocess.run(listing, capture_output=True, check=True, text=True).stdout.splitlines():
-        if (root / name).is_file() and not name.startswith(UNWRAPPED):
+        if (root / name).is_file():
             text = (root / name).read_text(encoding="utf-8", errors="replace")
-            if is_python(name, text):
+            if is_source(name, text):
                 yield name, text
 
 
@@ -56,7 +56,7 @@ def misplaced(folder, copies):
 def main():
     crates = [*sorted(path.parent for path in (ROOT / "crates").glob("*/src")), ROOT / "tests" / "calls"]
     passed = failed = 0
-    for name, text in python_files(ROOT):
+    for name, text in sources(ROOT):
         wrong = too_long(name, text)
         failed += bool(wrong)
         passed += not wrong

@@ -1,4 +1,4 @@
-"""The step that looks at the layout complains of a line of Python that is too long."""
+"""The step that looks at the layout complains of a line of Python or C that is too long."""
 
 import pathlib
 import subprocess
@@ -16,11 +16,11 @@ class Lines(unittest.TestCase):
         self.assertEqual(layout.too_long("a.py", f"\n{fits}x\n"),
                          ["a.py:2: 111 characters, and 110 are allowed"])
 
-    def test_files_of_python(self):
+    def test_sources(self):
         """By their names or by their first lines, in git or about to be."""
         with tempfile.TemporaryDirectory() as folder:
             for name, text in (("a.py", ""), ("a-command", "#!/usr/bin/env python3\n"),
-                               ("b.sh", "#!/bin/sh\n"), ("b.c", "/* #!python */\n"),
+                               ("b.sh", "#!/bin/sh\n"), ("b.c", ""), ("b.cc", "/* #!python */\n"),
                                ("gone.py", ""), ("ignored.py", "")):
                 (pathlib.Path(folder) / name).write_text(text)
             git = ["git", "-C", folder]
@@ -28,5 +28,5 @@ class Lines(unittest.TestCase):
             subprocess.run([*git, "add", "a.py", "gone.py"], check=True)
             (pathlib.Path(folder) / ".gitignore").write_text("ignored.py\n")
             (pathlib.Path(folder) / "gone.py").unlink()
-            self.assertEqual(sorted(name for name, _ in layout.python_files(pathlib.Path(folder))),
-                             ["a-command", "a.py"])
+            self.assertEqual(sorted(name for name, _ in layout.sources(pathlib.Path(folder))),
+                             ["a-command", "a.py", "b.c"])

@@ -1,4 +1,4 @@
-/* A program that logs its own events. `ready` publishes `price`; main reads `count` without the lock, which is a race. */
+/* A program that logs its events. `ready` publishes `price`; main reads `count` without the lock: a race. */
 #include <stdatomic.h>
 #include <unistd.h>
 #include "shb_log.h"

@@ -15,8 +15,9 @@ void add_to_list(u32 *list, u32 thread) {
 
 static u64 end_of(u64 i) { return address_of(i) + accessed_bytes(i); }
 
-/* What the passes know of each record, for the next: whether it means more than an access, and what it accesses, or 0. Until the third
-   pass that is the block, plus one, in which the access begins; from there on its only piece, or behind these the first of its runs. */
+/* What the passes know of each record, for the next: whether it means more than an access, and what it
+   accesses, or 0. Until the third pass that is the block, plus one, in which the access begins; from there on
+   its only piece, or behind these the first of its runs. */
 typedef struct { u32 accessed : 31, means_more : 1; } known_record;
 static known_record *known;
 
@@ -31,10 +32,12 @@ static void use_block(block *b, u32 t, int with_others) {
 
 static int means_more(u64 i) {
     enum operation operation = operation_of(i);
-    return late_context(i) || (operation > OP_WRITE && operation != OP_FREE && operation != OP_USE && operation != OP_DESTROY);
+    return late_context(i)
+        || (operation > OP_WRITE && operation != OP_FREE && operation != OP_USE && operation != OP_DESTROY);
 }
 
-/* Not so where an access that is late, with its context beside it, is none of the trace: its memory is of one thread alone. */
+/* Not so where an access that is late, with its context beside it, is none of the trace: its memory is of one
+   thread alone. */
 int means_access(u64 i) { return !late_context(i) || known[i].accessed; }
 
 void find_users(u64 i) {
@@ -70,7 +73,8 @@ typedef struct { u32 thread; int writes, writes_atomically, reads; } use;
 static use use_of(u64 i) {
     enum operation operation = operation_of(i);
     int writes = operation == OP_WRITE || operation == OP_FREE || operation == OP_DESTROY;
-    return (use){thread_of(i), writes, is_atomic(operation) && operation != OP_ATOMIC_LOAD, operation == OP_READ};
+    return (use){thread_of(i), writes, is_atomic(operation) && operation != OP_ATOMIC_LOAD,
+                 operation == OP_READ};
 }
 
 static void note_atomic_writer(u32 number, u32 thread) {
@@ -98,7 +102,8 @@ static void share_run(use u, const run *r) {
     for (u32 k = 0; k < r->count; k++) share_piece(u, r->first + k);
 }
 
-static u32 following(const u32 *numbers, u32 count) {        /* how many from the first on follow each other */
+/* how many from the first on follow each other */
+static u32 following(const u32 *numbers, u32 count) {
     u32 k = 1;
     while (k < count && numbers[k] == numbers[0] + k) k++;
     return k;
@@ -139,17 +144,20 @@ void share_pieces(u64 i) {
     runs.at[runs.count - 1].is_last = 1;
 }
 
-piece *only_piece(u64 i) { return known[i].accessed && known[i].accessed <= MOST_PIECES ? piece_of(known[i].accessed) : 0; }
+piece *only_piece(u64 i) {
+    return known[i].accessed && known[i].accessed <= MOST_PIECES ? piece_of(known[i].accessed) : 0;
+}
 
 /* ---- 4: events ---- */
-/* The same read, by the same thread at the same place under the same locks, with no write of the variable since, and
-   nothing since by which the thread could order another: all that it conflicts with, and all that it orders, the first
-   does too. */
+/* The same read, by the same thread at the same place under the same locks, with no write of the variable
+   since, and nothing since by which the thread could order another: all that it conflicts with, and all that
+   it orders, the first does too. */
 enum { RECENT = 1 << 18 };
 typedef struct {
     u64 site, epoch, locks;
     u32 piece, writes;
-    u32 from, end;                     /* its events in the trace, unless they are known to stand for others */
+    /* its events in the trace, unless they are known to stand for others */
+    u32 from, end;
 } read;
 static read *recent;
 
@@ -161,7 +169,8 @@ static int repeats(use u, u64 own, u32 number, read **kept) {
                  .piece = number, .writes = piece_of(number)->writes};
     u64 slot = (mix(site, 0) + number) & (RECENT - 1);       /* neighbours stand side by side */
     read *last = *kept = &recent[slot];
-    int same = last->site == this.site && last->piece == number && last->writes == this.writes && last->epoch == this.epoch
+    int same = last->site == this.site && last->piece == number && last->writes == this.writes
+        && last->epoch == this.epoch
         && last->locks == this.locks && !whole_trace;
     if (!same) *last = this;
     else for (; last->from < last->end; last->from++) note_repeated(last->from);
@@ -174,9 +183,9 @@ static void keep_event(read *kept, u64 event) {
     kept->end = event + 1;
 }
 
-/* An event of the variable itself, or of that which stands for its atomic writes by one thread. The page's trace
-   lacks those of variables in no race, but each thread's first one. Returns its number in the trace that is written,
-   if it isn't known yet whether it stands for others; else 0. */
+/* An event of the variable itself, or of that which stands for its atomic writes by one thread. The page's
+   trace lacks those of variables in no race, but each thread's first one. Returns its number in the trace
+   that is written, if it isn't known yet whether it stands for others; else 0. */
 static u64 piece_event(u64 i, u64 own, u32 number, const char *operation, u32 writer, int is_kept) {
     char text[NAME_BYTES + THREAD_BYTES];
     const piece *p = piece_of(number);
@@ -196,10 +205,13 @@ static u64 piece_event(u64 i, u64 own, u32 number, const char *operation, u32 wr
 }
 
 static int is_shared(const piece_use *p) { return p->many_users && p->written; }
-static int is_read_by_others(const piece_use *p, u32 t) { return p->many_readers || (p->reader && p->reader != t + 1); }
+static int is_read_by_others(const piece_use *p, u32 t) {
+    return p->many_readers || (p->reader && p->reader != t + 1);
+}
 
-/* An atomic write is a read of X, so that it conflicts with plain writes, and a write of a variable of X and its
-   thread alone, which the plain reads of others read too: so it conflicts with these, and never with an atomic access. */
+/* An atomic write is a read of X, so that it conflicts with plain writes, and a write of a variable of X and
+   its thread alone, which the plain reads of others read too: so it conflicts with these, and never with an
+   atomic access. */
 static void piece_events(u64 i, use u, u32 number, int is_kept) {
     const piece_use *users = use_of_piece(number);
     u32 t = u.thread;
@@ -221,7 +233,9 @@ static void piece_events(u64 i, use u, u32 number, int is_kept) {
         if (k->thread != t) keep_event(kept, piece_event(i, own, number, "r", k->thread, is_kept));
 }
 
-static char word_of(u64 i, use u) { return operation_of(i) == OP_FREE ? 'f' : u.writes ? 'w' : u.writes_atomically ? 'a' : 'r'; }
+static char word_of(u64 i, use u) {
+    return operation_of(i) == OP_FREE ? 'f' : u.writes ? 'w' : u.writes_atomically ? 'a' : 'r';
+}
 
 static void use_piece(u64 i, use u, u32 number) {
     u64 before = written;
@@ -231,11 +245,13 @@ static void use_piece(u64 i, use u, u32 number) {
     if (!with_stacks || !is_kept) return;
     const piece *p = piece_of(number);
     const block *b = block_of(p->block);
-    if (written == before && (!b || b->stack)) return;       /* of a local only an event has a name; of a block any access may tell it */
+    /* of a local only an event has a name; of a block any access may tell it */
+    if (written == before && (!b || b->stack)) return;
     note_name(p->at, p->block, before + 1, u.thread);
     if (operation_of(i) == OP_FREE) return;
     const int writes = u.writes || u.writes_atomically;
-    note_use_of_block(p->at, p->block, (use_of_block){address_of(i), accessed_bytes(i), caller_of(i), writes});
+    note_use_of_block(p->at, p->block,
+                      (use_of_block){address_of(i), accessed_bytes(i), caller_of(i), writes});
 }
 
 void access_events(u64 i) {

@@ -6,12 +6,16 @@
 
 /* What shb takes of a trace, as python/shb_common/limits.py has it. */
 enum { SHB_EVENTS = 4194304, SHB_THREADS = 1024, SHB_LINE = 4096, SHB_BYTES = 1 << 30 };
-typedef struct { u64 events, bytes; u32 threads; const char *before_thread; } limits;    /* the last: why it is cut before a thread more */
-#define LIMITS_OF_SHB ((limits){SHB_EVENTS, SHB_BYTES, SHB_THREADS, "before a thread too many: shb takes 1,024"})
-#define LIMITS_OF_LIST ((limits){4294967294, -1, 65535, "before a thread too many: shb places --list takes 65,535"})
+/* the last: why it is cut before a thread more */
+typedef struct { u64 events, bytes; u32 threads; const char *before_thread; } limits;
+#define LIMITS_OF_SHB \
+    ((limits){SHB_EVENTS, SHB_BYTES, SHB_THREADS, "before a thread too many: shb takes 1,024"})
+#define LIMITS_OF_LIST \
+    ((limits){4294967294, -1, 65535, "before a thread too many: shb places --list takes 65,535"})
 typedef struct { const char *at; u64 length; } part;         /* of a text, without an end of its own */
 
-/* The last line of a help text, after an empty one, and what --version says: what is installed. The installation defines it. */
+/* The last line of a help text, after an empty one, and what --version says: what is installed. The
+   installation defines it. */
 #ifdef SHB_VERSION
 #define VERSION_LINE "\nshb " SHB_VERSION "\n"
 #define VERSION SHB_VERSION
@@ -27,7 +31,8 @@ extern const char *recording_cut;      /* why the record is not that of the whol
 void open_record(const char *path);    /* dies where it is damaged, or a copy that was cut or changed */
 void is_damaged(const char *how) __attribute__((noreturn));
 extern u64 carried_count;              /* how many of them are of blocks that were there before */
-void carry_blocks(const char *path);   /* of the record's segment before: the file's records come before all others */
+/* of the record's segment before: the file's records come before all others */
+void carry_blocks(const char *path);
 u32 threads_met(void);                 /* after the first pass */
 void begin_records(void);              /* each pass */
 extern u64 records_end;                /* the records before it can be asked for, from the end before on */
@@ -35,20 +40,26 @@ void next_records(void);
 void forget_before(u64 i);             /* the entries of the file */
 enum operation operation_of(u64 i);
 u64 address_of(u64 i), caller_of(u64 i), size_of(u64 i);
-u64 late_context(u64 i);               /* of an access that is late: in which context it was made, plus one; else 0 */
+/* of an access that is late: in which context it was made, plus one; else 0 */
+u64 late_context(u64 i);
 int is_repeated(u64 i);                /* is it late, and stands for earlier ones? */
 void name_piece(u64 i, char *piece);   /* of a record OP_NAME: NAME_PIECE bytes and an end */
 u64 depth_inside(u64 i);               /* DEPTH_BEFORE where it is told by records before */
 void begin_thread_pass(void);
-int meet_fork(u64 i);                  /* each pass calls these for each fork and begin; 0 where there are too many threads */
+/* each pass calls these for each fork and begin; 0 where there are too many threads */
+int meet_fork(u64 i);
 void meet_start(u64 i);
 u32 thread_bound(void);                /* all threads are below it */
 u32 next_thread(u32 t);                /* the one after it, of those that there may be */
 u32 thread_of(u64 i);
 u32 other_thread_of(u64 i);            /* of a fork or join */
 static inline int is_plain(enum operation operation) { return operation == OP_READ || operation == OP_WRITE; }
-static inline int is_atomic(enum operation operation) { return operation >= OP_ATOMIC_LOAD && operation <= OP_ATOMIC_UPDATE; }
-static inline int is_for_object(enum operation operation) { return is_atomic(operation) || (operation >= OP_LOCK_INIT && operation < OP_USE); }
+static inline int is_atomic(enum operation operation) {
+    return operation >= OP_ATOMIC_LOAD && operation <= OP_ATOMIC_UPDATE;
+}
+static inline int is_for_object(enum operation operation) {
+    return is_atomic(operation) || (operation >= OP_LOCK_INIT && operation < OP_USE);
+}
 int acquires(u64 i), releases(u64 i);  /* of an atomic access or a fence */
 u64 accessed_bytes(u64 i);
 
@@ -57,19 +68,24 @@ static inline enum operation operation_in(struct record r) { return r.what >> 48
 static inline int is_late(struct record r) { return operation_in(r) == OP_LATE; }
 static inline int is_of_two(struct record r) { return is_late(r) || r.what >> 54 == SIZE_FOLLOWS; }
 int is_good_late(u64 position, struct record access, u64 i); /* of an entry OP_LATE, and the one after it */
-void count_late(u64 position, u64 most_entries);             /* of each entry OP_LATE, before these are found */
-u64 find_late(const struct record *of_record, u64 record_entries);       /* returns how many entries there are with these in place */
-/* Copies `room` entries from `at` on, or one more, or as many as there are, and sets `at` to the next. Returns how many; 0: damaged. */
+/* of each entry OP_LATE, before these are found */
+void count_late(u64 position, u64 most_entries);
+/* returns how many entries there are with these in place */
+u64 find_late(const struct record *of_record, u64 record_entries);
+/* Copies `room` entries from `at` on, or one more, or as many as there are, and sets `at` to the next.
+   Returns how many; 0: damaged. */
 u64 merge(struct record *to, u64 *contexts, u64 room, u64 *at);
 
 /* sources.c: the source files of modules, and how they are named. */
 void strip_folder(const char *folder); /* names of files below it are paths from it */
 void note_source(const char *path);
-void write_sources(FILE *file);        /* a line "source NAME TAB PATH" for each file of the program's own, before any is added */
+/* a line "source NAME TAB PATH" for each file of the program's own, before any is added */
+void write_sources(FILE *file);
 
 /* texts.c: the text of the lines that frames are at. */
 void note_line(const char *location);
-void write_sums(FILE *file, const char *name, const char *path);     /* of a source file; after all lines were noted */
+/* of a source file; after all lines were noted */
+void write_sums(FILE *file, const char *name, const char *path);
 const char *source_name(const char *path);                   /* of one that was noted; it stands for good */
 int in_system(const char *path);       /* is it the system's or the compiler's? */
 int in_rust_library(const char *path);
@@ -82,7 +98,8 @@ void find_places(void);                /* of all callers that were noted */
 part place_of(u64 caller);
 part line_end_of(u64 caller);          /* ")|" and its place, with WIDE bytes that may be read */
 void note_hooked(u64 function);        /* in the first pass: it has hooks */
-int is_unseen(u64 caller);             /* is it in a function of Rust's library without hooks, whose order nobody sees? */
+/* is it in a function of Rust's library without hooks, whose order nobody sees? */
+int is_unseen(u64 caller);
 int is_own_place(u64 caller);          /* not in a header or a library of the system */
 int is_of_system(u64 caller);          /* is it in a module of the system's, other than the recorder? */
 int is_of_recorder(u64 caller);
@@ -100,22 +117,25 @@ inlined_frame *frames_of(u64 caller);  /* null where it wasn't noted */
 inlined_frame *outermost(inlined_frame *f);
 int in_one_function(u64 caller, u64 other);
 const char *function_name(u64 address, char *buffer, size_t size);       /* "" where it is not known */
-/* The name if it isn't of the system's libraries, nor of the C++ library's headers unless for a lambda of the program; else 0. */
+/* The name if it isn't of the system's libraries, nor of the C++ library's headers unless for a lambda of the
+   program; else 0. */
 int own_function_name(u64 address, char *buffer, size_t size);
 void symbol_name(u64 address, char *buffer, size_t size);
-int own_length(const char *name);      /* without members of the C++ library's classes: of "box.mail._M_finish" that of "box.mail" */
+/* without members of the C++ library's classes: of "box.mail._M_finish" that of "box.mail" */
+int own_length(const char *name);
 void write_own_name(FILE *to, const char *name);         /* of a local: "box.mail of main" */
-/* The local of a function at `pc` that lies so many bytes below the end of its return address, and above its stack pointer:
-   "x.head of main"; 0 where none is known. */
+/* The local of a function at `pc` that lies so many bytes below the end of its return address, and above its
+   stack pointer: "x.head of main"; 0 where none is known. */
 int local_name(u64 function, u64 pc, u64 below, u64 above, u64 length, char *buffer, size_t size);
 
-/* The same of what lies so far inside of a block of so many bytes, which the C++ library allocated by a call in the program's own code:
-   "Account.balance". Returns the length of the type's name; 0 if the type isn't certain. */
+/* The same of what lies so far inside of a block of so many bytes, which the C++ library allocated by a call
+   in the program's own code: "Account.balance". Returns the length of the type's name; 0 if the type isn't
+   certain. */
 size_t name_in_block(u64 caller, u64 block_size, u64 offset, u64 length, char *buffer, size_t size);
 
-/* The same by an access: the block's size, the access's offset and length, or 0 if that isn't known, whether it
-   writes, and what is asked for: an offset and a length. Returns also the begin and the size of the object that the
-   access tells; they stay if it tells none. */
+/* The same by an access: the block's size, the access's offset and length, or 0 if that isn't known, whether
+   it writes, and what is asked for: an offset and a length. Returns also the begin and the size of the object
+   that the access tells; they stay if it tells none. */
 size_t name_by_use(u64 caller, const u64 use[6], char name[NAME_BYTES], u64 *begin, u64 *size);
 
 int is_variable(const char *name, size_t length);            /* is a static variable named so? */
@@ -131,17 +151,20 @@ typedef struct {
     u32 block;                         /* its number, or 0 */
     u32 atomic_writers;                /* a list */
     u32 writes;                        /* events so far that wrote it, in all traces */
-    u32 object;                        /* the number of the one that was met last at its address, or 0 (objects.c) */
+    /* the number of the one that was met last at its address, or 0 (objects.c) */
+    u32 object;
 } piece;
 /* Who uses a piece. It stands apart, for most accesses ask no more, and of several neighbours. */
 typedef struct {
-    u32 user : 28, many_users : 1, written : 1, written_atomically : 1;          /* the first thread that used it, plus one */
+    /* the first thread that used it, plus one */
+    u32 user : 28, many_users : 1, written : 1, written_atomically : 1;
     u32 reader : 28, many_readers : 1;                       /* and that read it plainly */
 } piece_use;
 enum { MOST_PIECES = (1u << 30) - 1 }; /* in accesses.c numbers of runs stand behind theirs */
 extern u64 range_steps;                /* in this pass: pages and pieces after the first of each range */
 void begin_memory_pass(void);
-block *meet_block(u64 i);              /* it, or null; each pass calls it for each OP_ALLOC and OP_START: the newest block holds its addresses */
+/* it, or null; each pass calls it for each OP_ALLOC and OP_START: the newest block holds its addresses */
+block *meet_block(u64 i);
 block *block_at(u64 address);          /* or null */
 void end_block(u64 address);           /* it is freed */
 void write_blocks(const char *path);   /* those that are there, for carry_blocks */
@@ -151,8 +174,8 @@ block *block_of(u32 number);
 void cut(u64 address);
 u64 next_cut(u64 from, u64 end);       /* the first cut after `from`, or the end */
 int in_one_grain(u64 address, u64 end);                      /* then it lies in one block */
-/* The numbers, from 1, of the pieces that begin from a cut on before `end`, but at most those in the cut's stretch of 64
-   bytes; with how many they are, and the next cut, or `end`. In the third pass; makes them. */
+/* The numbers, from 1, of the pieces that begin from a cut on before `end`, but at most those in the cut's
+   stretch of 64 bytes; with how many they are, and the next cut, or `end`. In the third pass; makes them. */
 u32 *pieces_at(u64 *cut, u64 end, u32 *count);
 piece *piece_of(u32 number);
 piece_use *use_of_piece(u32 number);
@@ -163,28 +186,35 @@ void open_stacks(const char *path);
 void note_call(u64 i);                 /* each record of calls, in the first pass */
 void meet_call(u64 i);                 /* each record of the fourth pass, before its events */
 void begin_calls(int has_stacks);      /* each pass that meets them */
-u64 own_function(u64 i);               /* of the context that a record tells: the outermost function that is the program's own, or 0 */
-u64 own_place(u32 t, u64 caller);      /* of what a thread does now: the innermost place in the program's own code, or the caller */
+/* of the context that a record tells: the outermost function that is the program's own, or 0 */
+u64 own_function(u64 i);
+/* of what a thread does now: the innermost place in the program's own code, or the caller */
+u64 own_place(u32 t, u64 caller);
 u32 stack_at(u32 t, u64 caller);
 void stack_of_event(u32 number);       /* of the event that comes next */
 void keep_stack(u32 number);           /* it is written, though no event has it */
 void note_crash(u64 i);                /* a record OP_CRASH */
 void say_crash(void);                  /* at the end */
 void note_free(u64 first, u64 last);   /* the events of one call that frees a block */
-void note_name(u64 at, u32 block, u64 event, u32 t);         /* of a piece or an object: this event of a thread is of it */
-void note_use(u64 i, u64 object, int gives);       /* of an atomic that several threads use: what stores, and a thread's first load of another's store */
+/* of a piece or an object: this event of a thread is of it */
+void note_name(u64 at, u32 block, u64 event, u32 t);
+/* of an atomic that several threads use: what stores, and a thread's first load of another's store */
+void note_use(u64 i, u64 object, int gives);
 void note_fence(u64 i);                /* with acquire */
 void end_stacks(void);                 /* of each trace */
 
 u64 allocated_by(u32 block_number);    /* what called for it, or 0 */
 
 /* heap.c: what lies in blocks of the heap. */
-typedef struct { u64 at, length, caller; int writes; } use_of_block;     /* an access; length 0: it isn't known */
+/* an access; length 0: it isn't known */
+typedef struct { u64 at, length, caller; int writes; } use_of_block;
 void note_in_block(u64 at, u32 block_number, u64 length);    /* of what has a name */
-void note_use_of_block(u64 at, u32 block_number, use_of_block use);      /* the same: it may tell what lies there */
+/* the same: it may tell what lies there */
+void note_use_of_block(u64 at, u32 block_number, use_of_block use);
 void write_names_in_blocks(FILE *to);
 
-/* The local that lies there on a stack now; "" where none is known, and of other memory. It stands for good. */
+/* The local that lies there on a stack now; "" where none is known, and of other memory. It stands
+   for good. */
 const char *local_now(u64 at, const block *b);
 
 /* state.c: what a trace can go on with. */
@@ -192,9 +222,11 @@ enum event_kind { IS_ACCESS, IS_ACQUIRE, IS_RELEASE, IS_FORK, IS_JOIN, IS_MARK }
 u32 trace_lock(part name);             /* its number, from 1 */
 part lock_name(u32 number);            /* with WIDE bytes that may be read; it stands for good */
 u32 trace_threads(void);               /* so many were met */
-/* 0 where the trace can't go on with it; other: the lock that it takes or releases, or the thread that it forks or joins. */
+/* 0 where the trace can't go on with it; other: the lock that it takes or releases, or the thread that it
+   forks or joins. */
 int trace_event(u64 length, enum event_kind kind, u32 thread, u32 other);
-int trace_access(u64 length, u32 thread);                    /* the same of an access, in a thread that is in the trace already */
+/* the same of an access, in a thread that is in the trace already */
+int trace_access(u64 length, u32 thread);
 void forget_trace(void);               /* its locks: threads are forgotten with all that is known of them */
 
 /* page.c: which of the run's events the trace has that is written, and the uses of variables in races. */
@@ -212,26 +244,30 @@ part name_of_held(u64 key);            /* objects.c: of a lock that a thread hol
 int is_for_reading(u64 key);           /* the same: does it hold it for reading? */
 void count_use(u32 t, u64 caller, u32 piece, char word);
 enum { NOBODY = -1u };
-void note_sight(u32 t, u64 own_place, u32 piece, u32 writer, int writes);   /* an event of the piece, or of what stands for a thread's atomic writes */
+/* an event of the piece, or of what stands for a thread's atomic writes */
+void note_sight(u32 t, u64 own_place, u32 piece, u32 writer, int writes);
 void note_repeated(u64 in_page);       /* an event stands for others that were omitted */
 void end_uses(void);                   /* of each trace */
 
 /* accesses.c, objects.c: what the passes do with a record. */
 extern int whole_trace;                /* also what cannot conflict */
-piece *only_piece(u64 i);              /* that a record accesses, from the third pass on; null of several, or none */
+/* that a record accesses, from the third pass on; null of several, or none */
+piece *only_piece(u64 i);
 void find_users(u64 i);
 int is_passed_over(u64 i);             /* from the second pass on: no pass needs the record */
 int means_access(u64 i);               /* does a record mean more than its context? */
 void find_cuts(u64 i);
 void share_pieces(u64 i);
 void share_object(u64 i);
-void note_record(u64 i);              /* behind each of the passes that share objects and write events, but those of calls */
+/* behind each of the passes that share objects and write events, but those of calls */
+void note_record(u64 i);
 extern int has_fences;                 /* known before the third pass */
 void share_fence(u64 i);
 void forget_states(void);              /* of objects, between the passes */
 void write_holds(u32 t);               /* acquires of what it holds that aren't in the trace */
 typedef void (*held_lock)(const char *operation, u32 t, const hold *h);
-void each_held(held_lock give, const char *operation);       /* those whose acquires are in the trace, the oldest first */
+/* those whose acquires are in the trace, the oldest first */
+void each_held(held_lock give, const char *operation);
 void access_events(u64 i);
 void object_events(u64 i);
 void fence_events(u64 i);
@@ -248,8 +284,10 @@ extern u64 written;                    /* of the one that is written: the same, 
 extern const char *cut_reason;         /* null while the trace goes on */
 void begin_events(void);               /* each pass that writes a trace */
 void name_thread(u32 t, u64 function); /* by the function that it runs, where it has no name yet */
-void name_by_own(u32 t, u64 i);        /* the same, by the functions that a record tells, if one is the program's own */
-void give_name(u32 t, const char *piece, int is_first);      /* a piece of one that the program gave; the main thread keeps its own */
+/* the same, by the functions that a record tells, if one is the program's own */
+void name_by_own(u32 t, u64 i);
+/* a piece of one that the program gave; the main thread keeps its own */
+void give_name(u32 t, const char *piece, int is_first);
 const char *thread_name(u32 t);        /* with an end */
 int has_events(u32 t);
 void pass_event(u32 t, int writes);    /* an access that the page's trace lacks */
@@ -259,5 +297,6 @@ part variable_name(u64 address, const block *b);             /* it stands until 
 u64 event(u32 t, const char *operation, part name, u32 other, u64 caller);
 u64 access_event(u32 t, const char *operation, u32 piece, u64 caller, u64 own_place);
 void lock_event(u32 t, const char *operation, u32 lock, u64 caller);   /* the lock's number in state.c */
-void hold_event(u32 t, const char *operation, u32 lock, u64 caller, u32 stack);       /* the same, which orders no thread */
+/* the same, which orders no thread */
+void hold_event(u32 t, const char *operation, u32 lock, u64 caller, u32 stack);
 void write_lines(void);                /* the last of the trace */

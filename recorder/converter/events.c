@@ -15,8 +15,8 @@ void begin_events(void) {
     forget_trace();
 }
 
-/* "_" stands for what would end a field or a line, and for the signs behind which names of locks and variables name a thread or a
-   block. */
+/* "_" stands for what would end a field or a line, and for the signs behind which names of locks and
+   variables name a thread or a block. */
 static void set_name(u32 t, const char *name) {
     snprintf(threads[t].name, THREAD_BYTES, "T%u%s%s", t, *name ? "." : "", name);
     for (char *p = threads[t].name; *p; p++)
@@ -95,7 +95,8 @@ static char *add_block_name(char *to, u64 address, const block *b) {
 static char *add_descriptor_name(char *to, u64 address) {
     static const char *const kinds[] = {"fd", "semaphores", "queue", "mqueue"};
     u64 place = address - FIRST_DESCRIPTOR;
-    to = add_number(add_text(to, kinds[place >> KIND_OF_OBJECT & 3]), place % (1ull << KIND_OF_OBJECT) / 16, 10);
+    to = add_number(add_text(to, kinds[place >> KIND_OF_OBJECT & 3]), place % (1ull << KIND_OF_OBJECT) / 16,
+                    10);
     return add_text(to, address & 8 ? ".data" : "");
 }
 
@@ -120,7 +121,8 @@ part variable_name(u64 address, const block *b) {
     return (part){name, end - name};
 }
 
-/* The name of a piece, with WIDE bytes that may be read. Short ones are mostly found in a table of recent ones. */
+/* The name of a piece, with WIDE bytes that may be read. Short ones are mostly found in a table of
+   recent ones. */
 static part piece_name(u32 number) {
     enum { RECENT = 1 << 16, SHORT = 59 };
     static struct { u32 piece; uint8_t length; char name[SHORT]; } recent[RECENT];
@@ -168,12 +170,14 @@ static inline char *add_line(char *to, part thread, const char *operation, part 
 static enum event_kind kind_of(const char *operation) {
     if (!operation[1]) return IS_ACCESS;
     if (*operation == 'b') return IS_MARK;
-    return *operation == 'a' ? IS_ACQUIRE : *operation == 'r' ? IS_RELEASE : *operation == 'f' ? IS_FORK : IS_JOIN;
+    return *operation == 'a' ? IS_ACQUIRE : *operation == 'r' ? IS_RELEASE : *operation == 'f' ? IS_FORK
+        : IS_JOIN;
 }
 
 /* A record that was changed may have events that a trace can't go on with. */
 static void need_event(int can_follow, const char *line, const char *end) {
-    if (!can_follow) die("event %lu, %.*s: a trace can't go on with this event", events + 1, (int)(end - line - 1), line);
+    if (!can_follow)
+        die("event %lu, %.*s: a trace can't go on with this event", events + 1, (int)(end - line - 1), line);
 }
 
 static char *room_for_line(void) {
@@ -192,7 +196,8 @@ static void keep_line(const char *end, u32 stack) {
 /* ---- spans ---- */
 static void add_held(const char *operation, u32 t, const hold *h) {
     if (written == most.events) return;
-    char *end = add_line(room_for_line(), name_of_thread(t), operation, lock_name(h->lock), line_end_of(h->caller));
+    char *end = add_line(room_for_line(), name_of_thread(t), operation, lock_name(h->lock),
+                         line_end_of(h->caller));
     keep_line(end, *operation == 'a' ? h->stack : 0);
 }
 
@@ -271,7 +276,8 @@ u64 access_event(u32 t, const char *operation, u32 number, u64 caller, u64 own) 
     part name = piece_name(number);
     int has_room = events < span_last && written < most.events;
     int is_usual = has_room && !threads[t].unwritten && has_events(t) && name.length;
-    char *line = room_for_line(), *end = is_usual ? add_line(line, name_of_thread(t), operation, name, line_end_of(own)) : line;
+    char *line = room_for_line(),
+        *end = is_usual ? add_line(line, name_of_thread(t), operation, name, line_end_of(own)) : line;
     if (!is_usual || bytes + (end - line) > most.bytes) return event(t, operation, name, 0, caller);
     need_event(trace_access(end - line - 1, t), line, end);
     events++;

@@ -1,11 +1,12 @@
-/* What lies in blocks of the heap: names by the type that the allocation tells, or else by what accesses tell of
-   objects in them. They are written when all events are. */
+/* What lies in blocks of the heap: names by the type that the allocation tells, or else by what accesses tell
+   of objects in them. They are written when all events are. */
 #include <stdlib.h>
 #include <string.h>
 #include "converter.h"
 
 enum { MOST_OWN = 4, MOST_OBJECTS = 32 };
-typedef struct { use_of_block use; u32 before, object, type_length; char *name; } access;  /* what it tells, or 0 */
+/* what it tells, or 0 */
+typedef struct { use_of_block use; u32 before, object, type_length; char *name; } access;
 /* An object of a block that accesses tell: its type, one of them, and how many places in the code tell it. */
 typedef struct { u64 begin, size; u32 type, access, callers, before; } object;
 typedef struct { u32 last, count; } chain;                   /* the last one's number from 1, or 0 */
@@ -90,10 +91,12 @@ static int ends_with(const char *text, const char *end) {
 static int are_together(const access *one, const access *other) {
     u64 size = objects.at[one->object - 1].size, other_size = objects.at[other->object - 1].size;
     if (size < other_size) return ends_with(members_of(other), members_of(one));
-    return size > other_size ? ends_with(members_of(one), members_of(other)) : !strcmp(one->name, other->name);
+    return size > other_size ? ends_with(members_of(one), members_of(other))
+        : !strcmp(one->name, other->name);
 }
 
-/* One that doesn't begin the block, and isn't an element by the text, is certain if several accesses tell it. */
+/* One that doesn't begin the block, and isn't an element by the text, is certain if several accesses
+   tell it. */
 static int is_certain(const access *a) {
     const object *o = &objects.at[a->object - 1];
     return !o->begin || a->name[a->type_length] == '[' || o->callers > 1;
@@ -104,8 +107,9 @@ static int is_larger(const access *a, const access *best) {
     return !best->object || objects.at[a->object - 1].size > objects.at[best->object - 1].size;
 }
 
-/* Goes on to the largest object of the block's that has the variable; if its own accesses tell nothing, to one that
-   is the whole block. 0 if what was told isn't within another one: then the memory has been of several types. */
+/* Goes on to the largest object of the block's that has the variable; if its own accesses tell nothing, to
+   one that is the whole block. 0 if what was told isn't within another one: then the memory has been of
+   several types. */
 static int find_larger(const in_block *i, access *best, char *name) {
     const block *b = block_of(i->block);
     const int is_told = best->object != 0;
@@ -139,7 +143,8 @@ static int by_type(const void *a, const void *b) {
     const in_block *one = a, *other = b;
     size_t least = one->type_length < other->type_length ? one->type_length : other->type_length;
     int order = one->name && other->name ? memcmp(one->name, other->name, least) : !one->name - !other->name;
-    if (order || one->type_length != other->type_length) return order ? order : one->type_length < other->type_length ? -1 : 1;
+    if (order || one->type_length != other->type_length)
+        return order ? order : one->type_length < other->type_length ? -1 : 1;
     if (one->block != other->block) return one->block < other->block ? -1 : 1;
     return one->name ? strcmp(one->name, other->name) : 0;
 }
@@ -149,7 +154,8 @@ static void find_names(void) {
     const u64 count = in_blocks.numbers.count;
     EACH(i, in_blocks.at, count) {
         const block *b = block_of(i->block);
-        i->type_length = name_in_block(allocated_by(i->block), b->size, i->at - b->at, i->length, name, sizeof name);
+        i->type_length = name_in_block(allocated_by(i->block), b->size, i->at - b->at, i->length, name,
+                                       sizeof name);
         if (i->type_length) i->name = copied(name);
         else ask_own(i);
     }
@@ -163,7 +169,8 @@ static int are_of_one_type(const in_block *one, const in_block *other) {
     return one->type_length == other->type_length && !memcmp(one->name, other->name, one->type_length);
 }
 
-/* Those of a type, which stand beside each other. Two variables of a block that would have one name have none. */
+/* Those of a type, which stand beside each other. Two variables of a block that would have one name
+   have none. */
 static void write_names_of_type(FILE *to, const in_block *first, const in_block *end) {
     int with_block = first->block != end[-1].block || is_variable(first->name, first->type_length);
     for (const in_block *i = first; i < end; i++) {

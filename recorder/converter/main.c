@@ -1,9 +1,9 @@
 /* shb-std: turns a record of the recorder into an STD trace.
 
-   Passes over the record.  The first meets the blocks of memory and finds those that one thread alone uses; the
-   second cuts what is left into pieces; the third finds which pieces and objects are shared, and who reads what; the
-   fourth writes the events.  With --only and races in its file another one writes those that a page of these needs, and
-   counts.  README.md has the table of what becomes what. */
+   Passes over the record.  The first meets the blocks of memory and finds those that one thread alone uses;
+   the second cuts what is left into pieces; the third finds which pieces and objects are shared, and who
+   reads what; the fourth writes the events.  With --only and races in its file another one writes those that
+   a page of these needs, and counts.  README.md has the table of what becomes what. */
 #define _GNU_SOURCE
 #include <errno.h>
 #include <fcntl.h>
@@ -37,7 +37,8 @@ static void meet_name(u64 i) {
 static void find_sharing(u64 i) {
     if (operation_of(i) == OP_NAME) meet_name(i);
     if (operation_of(i) == OP_START) name_thread(thread_of(i), caller_of(i));
-    if (operation_of(i) == OP_FRAME || operation_of(i) == OP_CONTEXT || late_context(i)) name_by_own(thread_of(i), i);
+    if (operation_of(i) == OP_FRAME || operation_of(i) == OP_CONTEXT || late_context(i))
+        name_by_own(thread_of(i), i);
     share_pieces(i);
     if (operation_of(i) == OP_FENCE) share_fence(i);
     if (is_for_object(operation_of(i))) share_object(i);
@@ -83,11 +84,13 @@ static void name_block(block *b, u64 i) {
     b->caller = own_place(thread_of(i), caller_of(i));
 }
 
-/* A record of ranges so long and so many that no pass would end soon is cut, or of so many threads: its beginning is a record too. */
+/* A record of ranges so long and so many that no pass would end soon is cut, or of so many threads: its
+   beginning is a record too. */
 static const char *shortened;
 static u32 record_threads;
 
-/* One step with each record that is of use. Inline, for a step that is called by its address costs more than most do. */
+/* One step with each record that is of use. Inline, for a step that is called by its address costs more than
+   most do. */
 static inline __attribute__((always_inline)) void pass(void (*step)(u64), int is_first) {
     begin_memory_pass();
     begin_thread_pass();
@@ -206,12 +209,13 @@ static void write_to(const char *path) {
     if (!freopen(path, "w", stdout)) cannot_write(path);
 }
 
-/* In a pipe with room this process and shb places --list give way to each other less often. Returns why the trace
-   is cut, or null. */
+/* In a pipe with room this process and shb places --list give way to each other less often. Returns why the
+   trace is cut, or null. */
 static const char *write_run(void) {
     if (for_list) most = LIMITS_OF_LIST;
     else most.events = event_limit;
-    if (for_list) fcntl(fileno(stdout), F_SETPIPE_SZ, 1 << 20);     /* bytes, the most that the system gives */
+    /* bytes, the most that the system gives */
+    if (for_list) fcntl(fileno(stdout), F_SETPIPE_SZ, 1 << 20);
     write_trace(!for_list);
     return cut_reason;
 }
@@ -243,7 +247,8 @@ int main(int count, char **words) {
     if (paths[ONLY]) write_page(has_run ? run_events : -1ull);
     if (!has_run) run_events = events;
     if (paths[LEFT]) write_blocks(paths[LEFT]);
-    fprintf(stderr, "shb-std: %lu records, %u threads, %lu events\n", entry_count, record_threads, run_events);
+    fprintf(stderr, "shb-std: %lu records, %u threads, %lu events\n", entry_count, record_threads,
+            run_events);
     say_crash();
     if (!cut) cut = shortened;
     if (recording_cut) fprintf(stderr, "shb-std: the recording is not the whole run: %s\n", recording_cut);

@@ -1,12 +1,13 @@
 /* Blocks and pieces of memory.
 
-   A block is what an allocation gave, or a stack; allocated again it is another block.  The accesses' bounds and those
-   of the blocks *cut* memory into pieces, and a piece is a variable: so two accesses share a variable exactly where they
-   overlap, and a long range that nobody cuts is one variable.  A piece is known by its address and its block.
+   A block is what an allocation gave, or a stack; allocated again it is another block.  The accesses' bounds
+   and those of the blocks *cut* memory into pieces, and a piece is a variable: so two accesses share a
+   variable exactly where they overlap, and a long range that nobody cuts is one variable.  A piece is known
+   by its address and its block.
 
-   In the third pass there are no new cuts.  Then a page has a slot for each of its cuts, which has the number of the
-   piece that begins there now; a new block empties its slots.  The cuts of 64 bytes stand beside their first slot, so a
-   piece is found by one look at each of the page, these, the slot and the piece. */
+   In the third pass there are no new cuts.  Then a page has a slot for each of its cuts, which has the number
+   of the piece that begins there now; a new block empties its slots.  The cuts of 64 bytes stand beside their
+   first slot, so a piece is found by one look at each of the page, these, the slot and the piece. */
 #include <stdlib.h>
 #include <string.h>
 #include "converter.h"
@@ -14,7 +15,8 @@
 enum { PAGE = 4096, GRAIN = 16, MAX_PAGES = 1 << 24 };
 #define MAX_BLOCK (1ull << 32)         /* a longer one is address space held in reserve: no new variables */
 
-typedef struct { u64 cuts; u32 *slots; } stretch;            /* of 64 bytes: a bit for each; the slot of its first cut */
+/* of 64 bytes: a bit for each; the slot of its first cut */
+typedef struct { u64 cuts; u32 *slots; } stretch;
 typedef struct {
     u32 whole, *grains;                /* numbers of blocks */
     stretch *stretches;
@@ -29,7 +31,8 @@ static VECTOR(piece_use) piece_uses;
 static INTERNED(page) pages;
 
 enum { RECENT = 4096 };
-static struct { u64 number; u32 found; } recent[RECENT];     /* pages that were asked for, by the ends of their numbers */
+/* pages that were asked for, by the ends of their numbers */
+static struct { u64 number; u32 found; } recent[RECENT];
 
 static page *find_page(u64 number, int make) {
     u32 found = make ? INTERN(pages, number, 0) : map_find(&pages.numbers, number, 0);
@@ -98,7 +101,8 @@ void end_block(u64 address) {
 void write_blocks(const char *path) {
     FILE *file = fopen(path, "w");
     EACH(b, blocks.at, file ? blocks.count : 0) {
-        const struct record r[] = {{b->at, b->caller | (u64)OP_ALLOC << 48 | (u64)SIZE_FOLLOWS << 54}, {b->size, (u64)OP_SIZE << 48}};
+        const struct record r[] = {{b->at, b->caller | (u64)OP_ALLOC << 48 | (u64)SIZE_FOLLOWS << 54},
+                                   {b->size, (u64)OP_SIZE << 48}};
         if (!b->stack && !b->freed && block_at(b->at) == b) fwrite(r, sizeof r, 1, file);
     }
     if (!file || fflush(file) || ferror(file) || fclose(file)) cannot_write(path);
@@ -123,7 +127,8 @@ block *meet_block(u64 i) {
     if (!size || size >= MAX_BLOCK) return 0;
     if (++met > blocks.count) {        /* in the first pass */
         const int is_stack = operation_of(i) == OP_START;
-        *PUSH(blocks) = (block){address_of(i), size, caller_of(i), .stack = is_stack, .many_users = whole_trace, .thread = thread_of(i)};
+        *PUSH(blocks) = (block){address_of(i), size, caller_of(i), .stack = is_stack,
+                                .many_users = whole_trace, .thread = thread_of(i)};
         cut(from);
         cut(end);
     }

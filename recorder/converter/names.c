@@ -14,12 +14,14 @@ typedef struct {
     struct reader *reader;             /* null until it is asked */
     INTERNED(page_symbols) pages;      /* of its file, those of which symbols were asked for */
     INTERNED(char *) members;          /* the text of an address and a length in a variable */
-    int asked, is_late, is_said;       /* of its lines; they are asked for when they are shown; what isn't read */
+    /* of its lines; they are asked for when they are shown; what isn't read */
+    int asked, is_late, is_said;
 } module;
 
 static module modules[MAX_MODULES];
 static int module_count;
-/* What a caller is: its location, whether that is the program's own code, and its frames, the innermost first. */
+/* What a caller is: its location, whether that is the program's own code, and its frames, the
+   innermost first. */
 typedef struct { u64 caller, length; char *text; inlined_frame *frames; uint8_t is_own, is_unseen; } place;
 static INTERNED(place) places;         /* by callers */
 static place nowhere;                  /* of a caller that wasn't noted */
@@ -38,18 +40,22 @@ static char *cleaned(char *text) {        /* what would end a field or a line */
     return text;
 }
 
-static struct reader *reader_of(module *m) { return m->reader ? m->reader : (m->reader = open_reader(m->path)); }
+static struct reader *reader_of(module *m) {
+    return m->reader ? m->reader : (m->reader = open_reader(m->path));
+}
 
 /* Says what isn't read of a module of the program's own, once for each. */
 static void say_unread(module *m) {
     answer why;
     if (m->is_said++ || in_system(m->path) || !ask_one(reader_of(m), ASK_UNREAD, 0, 0, &why)) return;
-    fprintf(stderr, "shb-std: %s: members of variables, and locals, may have no names, for its debug information %s\n", m->path, why.first);
+    fprintf(stderr, "shb-std: %s: members of variables, and locals, may have no names, for its debug "
+                    "information %s\n", m->path, why.first);
 }
 
 void read_modules(char *header) {
     char *rest = 0;
-    for (char *line = strtok_r(header, "\n", &rest); line && module_count < MAX_MODULES; line = strtok_r(0, "\n", &rest)) {
+    for (char *line = strtok_r(header, "\n", &rest); line
+         && module_count < MAX_MODULES; line = strtok_r(0, "\n", &rest)) {
         module *m = &modules[module_count];
         int path = 0;
         if (sscanf(line, "%lx %lx %lx %n", &m->low, &m->high, &m->base, &path) < 3 || !path) continue;
@@ -67,13 +73,15 @@ static void ask_symbols(module *m, u64 page, page_symbols *to) {
     answer a;
     ask(reader_of(m), ASK_SYMBOLS, &page, 1);
     while (next_answer(m->reader, &a)) {
-        u64 size = a.two >> SYMBOL_FLAGS, before = a.one < page ? page - a.one : 0, from = before ? 0 : a.one - page;
+        u64 size = a.two >> SYMBOL_FLAGS, before = a.one < page ? page - a.one : 0,
+            from = before ? 0 : a.one - page;
         if (from < behind || from >= SYMBOL_PAGE || size <= before) {
             refuse_answer(m->reader);
             return;
         }
         behind = size - before < SYMBOL_PAGE - from ? from + size - before : SYMBOL_PAGE;
-        *PUSH(to->symbols) = (symbol){a.one + m->base, size, cleaned(copied(a.first)), a.two & SYMBOL_IS_TWICE};
+        *PUSH(to->symbols) = (symbol){a.one + m->base, size, cleaned(copied(a.first)),
+                                      a.two & SYMBOL_IS_TWICE};
     }
 }
 
@@ -104,7 +112,8 @@ int is_of_system(u64 caller) {
     return m && in_system(m->path) && !is_recorder(m);
 }
 
-/* Where a lambda begins in a function's name that isn't in an argument of a template or a parameter; or null. */
+/* Where a lambda begins in a function's name that isn't in an argument of a template or a parameter;
+   or null. */
 static const char a_lambda[] = "{lambda(";
 static char *own_lambda(char *name) {
     int depth = 0;
@@ -119,7 +128,8 @@ static char *own_lambda(char *name) {
 static char *shortened(char *name) {
     static const char nameless[] = "(anonymous namespace)::";
     char *at;
-    while ((at = strstr(name, nameless))) memmove(at, at + strlen(nameless), strlen(at + strlen(nameless)) + 1);
+    while ((at = strstr(name, nameless)))
+        memmove(at, at + strlen(nameless), strlen(at + strlen(nameless)) + 1);
     char *lambda = own_lambda(name);
     if (lambda) *lambda = 0;
     name[strcspn(name, "(")] = 0;
@@ -148,7 +158,8 @@ static int is_of_cxx_library(const char *name) {
     return (standard && standard < name + length) || (extension && extension < name + length);
 }
 
-/* The first lambda of the program's own in the arguments of a template: what a function of the C++ library was made for. Or null. */
+/* The first lambda of the program's own in the arguments of a template: what a function of the C++ library
+   was made for. Or null. */
 static char *lambda_among(const char *name) {
     for (const char *at = name; (at = strstr(at, a_lambda)); at++) {
         const char *from = at;
@@ -192,12 +203,14 @@ static void keep_member(module *m, u64 address, u64 length, const char *text) {
     if (!*kept) *kept = cleaned(copied(text));
 }
 
-/* Asks for what is at an address of a variable, and for what is behind it: an array may have many elements. */
+/* Asks for what is at an address of a variable, and for what is behind it: an array may have
+   many elements. */
 static void ask_members(module *m, const symbol *s, u64 address) {
     enum { TOGETHER = 512, MOST_KEPT = 1 << 20 };
     u64 most = m->members.numbers.count < MOST_KEPT ? TOGETHER : 1, count = 1;
     u64 numbers[1 + 2 * TOGETHER] = {s->at - m->base};
-    for (u64 at = address, length = 0; count < 2 * most && at < s->at + s->size && length < MOST_LENGTH; at += length) {
+    for (u64 at = address, length = 0; count < 2 * most && at < s->at + s->size
+         && length < MOST_LENGTH; at += length) {
         length = length_at(s, at);
         numbers[count++] = at - s->at;
         numbers[count++] = length;
@@ -218,7 +231,8 @@ static const char *member_at(module *m, const symbol *s, u64 address) {
     return number ? m->members.at[number - 1] : 0;
 }
 
-/* "x", "x.head", "x[3]", "x+8"; of a name that isn't the only one "x~ADDRESS"; outside the program "lib.so:x". */
+/* "x", "x.head", "x[3]", "x+8"; of a name that isn't the only one "x~ADDRESS"; outside the
+   program "lib.so:x". */
 void symbol_name(u64 address, char *buffer, size_t size) {
     module *m = module_at(address);
     symbol *s = m ? symbol_at(m, address) : 0;
@@ -266,7 +280,8 @@ size_t name_in_block(u64 caller, u64 block_size, u64 offset, u64 length, char *b
     answer part;
     if (!m || map_find(&untyped, caller, block_size)) return 0;
     say_unread(m);
-    if (!ask_one(reader_of(m), ASK_BLOCK, (u64[]){caller - 1 - m->base, block_size, offset, length}, 4, &part)) {
+    if (!ask_one(reader_of(m), ASK_BLOCK, (u64[]){caller - 1 - m->base, block_size, offset, length}, 4,
+                 &part)) {
         map_number(&untyped, caller, block_size);
         return 0;
     }
@@ -280,7 +295,8 @@ size_t name_by_use(u64 caller, const u64 use[6], char name[NAME_BYTES], u64 *beg
     u64 asked[7] = {m ? caller - 1 - m->base : 0};
     answer part;
     memcpy(asked + 1, use, 6 * sizeof *use);
-    if (!m || in_system(m->path) || is_recorder(m) || !ask_one(reader_of(m), ASK_USE, asked, 7, &part)) return 0;
+    if (!m || in_system(m->path) || is_recorder(m) || !ask_one(reader_of(m), ASK_USE, asked, 7, &part))
+        return 0;
     if (part.one > strlen(part.first) || strlen(part.first) >= NAME_BYTES) return 0;
     *begin = part.two >> 32;
     *size = (u32)part.two;
@@ -294,7 +310,8 @@ int local_name(u64 function, u64 pc, u64 below, u64 above, u64 length, char *buf
     char own[200];
     if (!m) return 0;
     say_unread(m);
-    if (!ask_one(reader_of(m), ASK_LOCAL, (u64[]){pc - 1 - m->base, below, above, length}, 4, &local)) return 0;
+    if (!ask_one(reader_of(m), ASK_LOCAL, (u64[]){pc - 1 - m->base, below, above, length}, 4, &local))
+        return 0;
     const char *inside = *local.second ? local.second : function_name(function - 1, own, sizeof own);
     snprintf(buffer, size, "%.*s of %.199s", (int)(size - sizeof own - 5), local.first, inside);
     cleaned(buffer);
@@ -310,7 +327,8 @@ static __attribute__((noinline)) u32 number_of(u64 caller) {
     return number;
 }
 
-/* A caller's number, mostly from a table of recent ones; once places are found, 0 of one that wasn't noted. */
+/* A caller's number, mostly from a table of recent ones; once places are found, 0 of one that
+   wasn't noted. */
 static u32 caller_number(u64 caller) {
     enum { RECENT = 4096 };
     static struct { u64 caller; u32 number; } recent[RECENT];
@@ -347,9 +365,11 @@ static inlined_frame *new_frame(const char *function, const char *location, u64 
     return f;
 }
 
-/* A function's name without what the compiler adds for its parts and copies: "f.cold", "f(int) [clone .part.0]". */
+/* A function's name without what the compiler adds for its parts and copies: "f.cold", "f(int)
+   [clone .part.0]". */
 static char *function_part(char *name) {
-    static const char *const added[] = {".cold", ".part.", ".isra.", ".constprop.", ".lto_priv."}, clone[] = " [clone ";
+    static const char *const added[] = {".cold", ".part.", ".isra.", ".constprop.", ".lto_priv."},
+        clone[] = " [clone ";
     for (size_t i = 0; i < sizeof added / sizeof *added; i++) {
         char *at = strstr(name, added[i]), *before = at ? at - strlen(clone) : 0;
         if (at) *(before > name && !strncmp(before, clone, strlen(clone)) ? before : at) = 0;
@@ -360,7 +380,8 @@ static char *function_part(char *name) {
 static inlined_frame *frame_of(const module *m, const answer *a) {
     int is_named = a->two || !in_system(m->path);            /* else the name may be a neighbour's */
     u64 line = *a->second && a->two < UINT32_MAX ? a->two : 0;
-    inlined_frame *f = new_frame(is_named ? cleaned(function_part(copied(a->first))) : "", line ? copied(a->second) : 0, line);
+    inlined_frame *f = new_frame(is_named ? cleaned(function_part(copied(a->first))) : "",
+                                 line ? copied(a->second) : 0, line);
     if (line && !m->is_late) note_source(a->second);
     f->in_system = in_system(m->path);
     f->in_rust_library = line && in_rust_library(a->second);
@@ -395,7 +416,8 @@ static char *with_lambdas(const char *name) {
     return text;
 }
 
-/* Names a lambda's frame as threads are named that run it; where it is inlined, by the functions of the C++ library around it. */
+/* Names a lambda's frame as threads are named that run it; where it is inlined, by the functions of the C++
+   library around it. */
 static void name_lambda(inlined_frame *f) {
     char *text = with_lambdas(f->function), *found = own_lambda(text) ? lambda_among(text) : 0;
     int is_bare = !strcmp(f->function, "operator()");
@@ -411,7 +433,8 @@ static void name_lambda(inlined_frame *f) {
 static void ask_for_lines(module *m) {
     u64 count, *addresses = addresses_in(m, &count);
     m->asked = 1;
-    for (u64 k = 0; k < count; k += MOST_NUMBERS) read_frames(m, addresses + k, count - k < MOST_NUMBERS ? count - k : MOST_NUMBERS);
+    for (u64 k = 0; k < count; k += MOST_NUMBERS)
+        read_frames(m, addresses + k, count - k < MOST_NUMBERS ? count - k : MOST_NUMBERS);
     free(addresses);
 }
 
@@ -458,7 +481,8 @@ static int is_hooked(module *m, u64 caller) {
     return !s || map_find(&begins, s->at, 0);
 }
 
-/* Names the frames of a caller; its location is the first one outside of the system's headers, else the first. */
+/* Names the frames of a caller; its location is the first one outside of the system's headers, else
+   the first. */
 static void find_place(place *p) {
     module *m = module_at(p->caller);
     inlined_frame *chosen = 0;
@@ -499,13 +523,15 @@ static int has_callers(const module *m) {
     return 0;
 }
 
-/* A library of the system whose lines are in a file of their own, and the recorder's, is late: it is asked when a frame of it is
-   shown, and mostly none is. Its source files aren't the program's, so the names of those don't hang on it. */
+/* A library of the system whose lines are in a file of their own, and the recorder's, is late: it is asked
+   when a frame of it is shown, and mostly none is. Its source files aren't the program's, so the names of
+   those don't hang on it. */
 void find_places(void) {
     nowhere.text = line_end("");
     for (module *m = modules; m < modules + module_count; m++) {
         if (!in_system(m->path) && !is_recorder(m)) note_sources_of(m);
-        m->is_late = is_recorder(m) || (m > modules && in_system(m->path) && !(has_callers(m) && has_own_lines(m)));
+        m->is_late = is_recorder(m)
+            || (m > modules && in_system(m->path) && !(has_callers(m) && has_own_lines(m)));
         if (!m->is_late) ask_for_lines(m);
     }
     find_asked_places();
@@ -544,7 +570,8 @@ inlined_frame *outermost(inlined_frame *f) {
 /* By their symbols. */
 int in_one_function(u64 caller, u64 other) {
     module *m = module_at(caller);
-    symbol *s = m ? symbol_at(m, caller - 1) : 0, *o = m && module_at(other) == m ? symbol_at(m, other - 1) : 0;
+    symbol *s = m ? symbol_at(m, caller - 1) : 0, *o = m
+        && module_at(other) == m ? symbol_at(m, other - 1) : 0;
     if (!s || !o || s == o) return s && s == o;
     char *one = function_part(copied(s->name)), *two = function_part(copied(o->name));
     int same = !strcmp(one, two);

@@ -5,8 +5,8 @@
 #include <string.h>
 #include "converter.h"
 
-/* What a store or an update gives on to those who read it: a number of the object's own, and who gave it. If it is
-   locked, whoever takes the lock of the object's head gets it too. */
+/* What a store or an update gives on to those who read it: a number of the object's own, and who gave it. If
+   it is locked, whoever takes the lock of the object's head gets it too. */
 typedef struct { u32 version, giver, locked; } gift;
 
 typedef struct {
@@ -15,7 +15,8 @@ typedef struct {
     u32 block, user;                   /* the block's number; the first thread that used it, plus one */
     u32 lock;                          /* the number of its own lock in the trace, once it has one */
     u32 holder, depth;                 /* of a lock: the thread that took it, plus one, and how often */
-    u32 version, head;                 /* how often it gave something; the number of the lock of its updates */
+    /* how often it gave something; the number of the lock of its updates */
+    u32 version, head;
     VECTOR(gift) gifts;                /* what its present value gives */
     u32 posts;                         /* of a semaphore */
     VECTOR(u32) waiters;               /* of it; of a reader-writer lock: the readers since the last writer */
@@ -27,8 +28,8 @@ typedef struct {
 } object;
 
 static INTERNED(object) objects;
-/* For a thread and an object: the last version, post or round that the thread has seen, and the last version that it
-   will take at a fence. */
+/* For a thread and an object: the last version, post or round that the thread has seen, and the last version
+   that it will take at a fence. */
 typedef struct { u32 last, noted; } sight;
 static INTERNED(sight) seen;
 static INTERNED(u32) version_readers;  /* for object and version: the list of those who will read it */
@@ -87,7 +88,8 @@ static void give(object *o, u32 t, int locked) {
     *PUSH(o->gifts) = (gift){++o->version, t, locked};
 }
 
-/* t takes all gifts of the present value that it hasn't; what the lock of the head gives only if that isn't taken. */
+/* t takes all gifts of the present value that it hasn't; what the lock of the head gives only if that
+   isn't taken. */
 static void take_gifts(object *o, u32 t, int by_lock, handing hand, u64 caller) {
     u32 last = *seen_by(o, t);
     for (u64 k = o->gifts.count; k-- > 0 && o->gifts.at[k].version > last;) {
@@ -107,8 +109,8 @@ static void note_gift(u64 i, const object *o) {
     threads[thread_of(i)].gave_at = i + 1;
 }
 
-/* Who gave, and takes what others gave before it does anything else, may give it all on, and nothing besides: so those who take after it
-   take one gift. Returns whether it does. */
+/* Who gave, and takes what others gave before it does anything else, may give it all on, and nothing besides:
+   so those who take after it take one gift. Returns whether it does. */
 static int gives_all_on(object *o, u32 t) {
     u64 k = 0;
     while (k < o->gifts.count && o->gifts.at[k].giver != t) k++;
@@ -154,7 +156,8 @@ static void store_value(u64 i, object *o) {
     o->head = o->version;
 }
 
-/* An update keeps what the value before gave, but for what is in its own gift; one by the lock has taken all. */
+/* An update keeps what the value before gave, but for what is in its own gift; one by the lock has
+   taken all. */
 static void write_value(u64 i, object *o) {
     if (gives(i)) note_gift(i, o);
     if (operation_of(i) == OP_ATOMIC_STORE) {
@@ -170,8 +173,8 @@ static void pass_fence(u64 i, handing hand) {
 }
 
 /* ---- 3: who uses and who reads what ---- */
-/* A store passes what it gives to each of its takers by a lock of these two alone, so that no taker orders another. For
-   this the takers of each version are found first. */
+/* A store passes what it gives to each of its takers by a lock of these two alone, so that no taker orders
+   another. For this the takers of each version are found first. */
 static void add_taker(object *o, u32 version, u32 t, u64 unused) {
     add_to_list(ENTRY(version_readers, index_of(o), version), t);
 }
@@ -245,8 +248,9 @@ void forget_states(void) {
     if (seen.at) memset(seen.at, 0, seen.numbers.count * sizeof *seen.at);
 }
 
-/* ---- 4: which of an object's locks: its own (no sign), or a reader's own of a reader-writer lock ("X@reader.T2"); "X@3", of its
-   third version; "X@3>T2" (passed to T2), "X@3<T2" (passed by T2); with "@@" of a second object at an address ---- */
+/* ---- 4: which of an object's locks: its own (no sign), or a reader's own of a reader-writer lock
+   ("X@reader.T2"); "X@3", of its third version; "X@3>T2" (passed to T2), "X@3<T2" (passed by T2); with "@@"
+   of a second object at an address ---- */
 typedef struct { char sign; u32 version, thread; } which;
 static const which own = {0}, of_reader = {.sign = 'r'};
 static which of_version(u32 version) { return (which){'@', version, 0}; }
@@ -262,21 +266,26 @@ static u32 lock_of(object *o, which w, u32 t) {
     char *tail = mempcpy(text, name.at, name.length);
     if (w.sign == 'r') tail += snprintf(tail, TAIL_BYTES, "@reader.%s", thread_name(t));
     else if (w.sign) tail += snprintf(tail, TAIL_BYTES, "%s%u", o->mark, w.version);
-    if (w.sign == '<' || w.sign == '>') tail += snprintf(tail, text + sizeof text - tail, "%c%s", w.sign, thread_name(w.thread));
+    if (w.sign == '<' || w.sign == '>')
+        tail += snprintf(tail, text + sizeof text - tail, "%c%s", w.sign, thread_name(w.thread));
     u32 number = trace_lock((part){text, tail - text});
     if (!w.sign) o->lock = number;
     return number;
 }
 
-/* ---- 4: the locks that a thread holds, of those that the program has. The acquire of some tells a thread nothing:
-   of those of one thread alone; of reader-writer locks, whose order is told by locks of their own. Such a lock is
-   acquired in the trace right before its thread's next event, if there is one until the release: so each lock that
-   is held at an access in the trace is there. ---- */
+/* ---- 4: the locks that a thread holds, of those that the program has. The acquire of some tells a thread
+   nothing: of those of one thread alone; of reader-writer locks, whose order is told by locks of their own.
+   Such a lock is acquired in the trace right before its thread's next event, if there is one until the
+   release: so each lock that is held at an access in the trace is there. ---- */
 static u64 key_of(const object *o, which w) { return index_of(o) << 1 | (w.sign == 'r'); }
 static object *object_of_key(u64 key) { return &objects.at[key >> 1]; }
-static u32 lock_of_key(u64 key, u32 t) { return lock_of(object_of_key(key), is_for_reading(key) ? of_reader : own, t); }
+static u32 lock_of_key(u64 key, u32 t) {
+    return lock_of(object_of_key(key), is_for_reading(key) ? of_reader : own, t);
+}
 int is_for_reading(u64 key) { return key & 1; }
-part name_of_held(u64 key) { return variable_name(object_of_key(key)->at, block_of(object_of_key(key)->block)); }
+part name_of_held(u64 key) {
+    return variable_name(object_of_key(key)->at, block_of(object_of_key(key)->block));
+}
 
 /* Before an event of it. */
 static void note_lock(const object *o, u32 t, u64 caller) {
@@ -463,7 +472,8 @@ static void wait_events(object *o, u32 t, u64 caller) {
     *last = o->posts;
 }
 
-static void arrive_events(object *o, u32 t, u64 caller) {    /* rounds are told apart where no thread can skip one */
+/* rounds are told apart where no thread can skip one */
+static void arrive_events(object *o, u32 t, u64 caller) {
     int has_rounds = o->count && o->users <= o->count && !o->recounted;
     u32 round = has_rounds ? o->arrivals / o->count : 0;
     o->arrivals++;

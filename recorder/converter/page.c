@@ -1,26 +1,37 @@
-/* Which of the run's events a trace has: all; or a part, for a page, around races that shb places --list has found in
-   that of the run.
+/* Which of the run's events a trace has: all; or a part, for a page, around races that shb places --list has
+   found in that of the run.
 
-   The file of races has a line for each of them: the numbers of its two events in the run's trace, and its variable. Of the events
-   around a race's accesses, and between them unless they lie far apart, the page's trace has the accesses of variables in races, and all
-   locks, forks and joins; of those between such spans each thread's first one, forks and joins. A span begins with an acquire for each
-   lock that is held there, and what is held at its end is released. Events that the page's trace lacks are left out, and none is made up.
+   The file of races has a line for each of them: the numbers of its two events in the run's trace, and its
+   variable. Of the events around a race's accesses, and between them unless they lie far apart, the page's
+   trace has the accesses of variables in races, and all locks, forks and joins; of those between such spans
+   each thread's first one, forks and joins. A span begins with an acquire for each lock that is held there,
+   and what is held at its end is released. Events that the page's trace lacks are left out, and none is made
+   up.
 
-   The file of uses has of the whole run how often each variable in a race is used at each location in each way, and sums of that by threads,
-   call stacks and locks; and which events of the page's trace those of the races are. Lines, with tabs between their fields, behind USES_BEGIN:
-       use WORD VARIABLE LOCAL LOCATION SUM..                   WORD is r, w, a (written atomically) or f (freed). A SUM is three
+   The file of uses has of the whole run how often each variable in a race is used at each location in each
+   way, and sums of that by threads, call stacks and locks; and which events of the page's trace those of the
+   races are. Lines, with tabs between their fields, behind USES_BEGIN:
+       use WORD VARIABLE LOCAL LOCATION SUM..                   WORD is r, w, a (written atomically) or f
+       (freed). A SUM is three
                                                                 fields; COUNT is how many accesses
            by COUNT THREAD                                      the thread makes
-           bare COUNT STACK                                     hold no lock, and have this stack: a number of the file of stacks, or 0
-           held COUNT STACK                                     hold locks, and have it; "many" in its place: more than 64, of which no
+           bare COUNT STACK                                     hold no lock, and have this stack: a number of
+           the file of stacks, or 0
+           held COUNT STACK                                     hold locks, and have it; "many" in its place:
+           more than 64, of which no
                                                                 sum tells
-           under COUNT LOCK                                     hold the lock; "reading" in its place: for reading
-       seen VARIABLE WRITTEN READ                               in the run a read at the location READ saw what another thread
+           under COUNT LOCK                                     hold the lock; "reading" in its place: for
+           reading
+       seen VARIABLE WRITTEN READ                               in the run a read at the location READ saw
+       what another thread
                                                                 wrote at the location WRITTEN
        event NUMBER-IN-PAGE NUMBER-IN-RUN
-       part NUMBER-IN-PAGE                                      between this event and the one before it some may be missing
-       repeated NUMBER-IN-PAGE                this access stands for others of its kind, which are omitted: earlier
-                                              ones in a phase of one owner; of a read also later ones, before the
+       part NUMBER-IN-PAGE                                      between this event and the one before it some
+       may be missing
+       repeated NUMBER-IN-PAGE                this access stands for others of its kind, which are omitted:
+       earlier
+                                              ones in a phase of one owner; of a read also later ones, before
+                                              the
                                               thread could order another or the variable is written
        events COUNT-IN-PAGE                                     at the end */
 #define _GNU_SOURCE
@@ -34,7 +45,8 @@ enum { BEFORE = 500, BEHIND = 16, SHORT_RUN = 20000, FAR_APART = 20000 };   /* e
 enum { MOST_COUNTED = 64 };            /* locks */
 typedef struct { u64 first, last; } span;
 
-/* What is written: the events in these spans, and of accesses those of variables with these names, or of all. */
+/* What is written: the events in these spans, and of accesses those of variables with these names, or
+   of all. */
 typedef struct {
     VECTOR(span) spans;
     map names;
@@ -50,7 +62,8 @@ static FILE *uses_file;
 static const char *uses_path;
 
 /* ---- the races ---- */
-/* One whose accesses lie far apart has two spans. What stands behind the last "!" may be the thread of an atomic's writer. */
+/* One whose accesses lie far apart has two spans. What stands behind the last "!" may be the thread of an
+   atomic's writer. */
 static void add_race(u64 first, u64 second, char *variable) {
     char *sign = strrchr(variable, '!'), *block = strrchr(variable, '#');
     int is_apart = second - first > FAR_APART || second - first > most.events;
@@ -65,7 +78,8 @@ static void add_race(u64 first, u64 second, char *variable) {
     map_text(&page.names, variable);
 }
 
-/* The spans of races that are near each other are one; it begins and ends with the run where that is short. One of a single access doesn't. */
+/* The spans of races that are near each other are one; it begins and ends with the run where that is short.
+   One of a single access doesn't. */
 static void join_spans(u64 run_events) {
     u64 count = 0;
     qsort(page.spans.at, page.spans.count, sizeof *page.spans.at, by_number);
@@ -184,7 +198,8 @@ static void add_locks(u32 number, u32 t, u32 stack) {
     EACH(h, s->held.at, s->held.count) count += !h->is_again && !(h->key & ONLY_ORDERS);
     add_sum(number, !count ? BARE : count > MOST_COUNTED ? MANY : HELD, stack);
     EACH(h, s->held.at, count > MOST_COUNTED ? 0 : s->held.count)
-        if (!h->is_again && !(h->key & ONLY_ORDERS)) add_sum(number, is_for_reading(h->key) ? READING : UNDER, h->key);
+        if (!h->is_again && !(h->key & ONLY_ORDERS))
+            add_sum(number, is_for_reading(h->key) ? READING : UNDER, h->key);
 }
 
 void count_use(u32 t, u64 caller, u32 number, char word) {
@@ -205,7 +220,8 @@ void count_use(u32 t, u64 caller, u32 number, char word) {
 /* ---- which writes were read ---- */
 typedef struct { u64 caller; u32 thread; } last_write;       /* its thread plus one */
 typedef struct { u64 written, read; u32 piece, writer; } sight;
-static INTERNED(last_write) last_writes;                     /* by pieces, each with an atomic's writer or NOBODY */
+/* by pieces, each with an atomic's writer or NOBODY */
+static INTERNED(last_write) last_writes;
 static INTERNED(sight) sights;
 
 void note_sight(u32 t, u64 own, u32 number, u32 writer, int writes) {
@@ -214,14 +230,17 @@ void note_sight(u32 t, u64 own, u32 number, u32 writer, int writes) {
     last_write *last = ENTRY(last_writes, number, writer);
     if (writes) *last = (last_write){own, t + 1};
     else if (last->thread && last->thread != t + 1)
-        *ENTRY(sights, map_number(&places, last->caller, own), (u64)writer << 32 | number) = (sight){last->caller, own, number, writer};
+        *ENTRY(sights, map_number(&places, last->caller, own),
+               (u64)writer << 32 | number) = (sight){last->caller, own, number, writer};
 }
 
 static void write_sight(const sight *s) {
     const piece *p = piece_of(s->piece);
-    part name = variable_name(p->at, block_of(p->block)), written = place_of(s->written), read = place_of(s->read);
+    part name = variable_name(p->at, block_of(p->block)), written = place_of(s->written),
+        read = place_of(s->read);
     int is_atomic = s->writer != NOBODY;
-    fprintf(uses_file, "seen\t%.*s%s%s\t%.*s\t%.*s\n", (int)name.length, name.at, is_atomic ? "!" : "", is_atomic ? thread_name(s->writer) : "",
+    fprintf(uses_file, "seen\t%.*s%s%s\t%.*s\t%.*s\n", (int)name.length, name.at, is_atomic ? "!" : "",
+            is_atomic ? thread_name(s->writer) : "",
             (int)written.length, written.at, (int)read.length, read.at);
 }
 
@@ -229,7 +248,8 @@ static void write_sum(const sum *s) {
     static const char *const words[] = {"by", "bare", "held", "many", "under", "reading"};
     fprintf(uses_file, "\t%s\t%lu\t", words[s->kind], s->count);
     if (s->kind == BY) fputs(thread_name(s->of), uses_file);
-    else if (s->kind >= UNDER) fprintf(uses_file, "%.*s", (int)name_of_held(s->of).length, name_of_held(s->of).at);
+    else if (s->kind >= UNDER)
+        fprintf(uses_file, "%.*s", (int)name_of_held(s->of).length, name_of_held(s->of).at);
     else {
         fprintf(uses_file, "%lu", s->of);
         keep_stack(s->of);

@@ -1,5 +1,6 @@
-/* The readers of modules: a process for each module that is asked of, with limits of its own, for a module may be any file. What one
-   answers is checked here; one that ends, or answers what can't be, is asked no more. */
+/* The readers of modules: a process for each module that is asked of, with limits of its own, for a module
+   may be any file. What one answers is checked here; one that ends, or answers what can't be, is asked no
+   more. */
 #define _GNU_SOURCE
 #include <errno.h>
 #include <fcntl.h>
@@ -15,7 +16,8 @@
 
 enum { MOST_SECONDS = 360 };           /* of processor time, of all readers */
 #define MOST_TAKEN (1ull << 31)        /* bytes of all answers of all readers */
-#define MOST_HELD (sysconf(_SC_PHYS_PAGES) / 2 * sysconf(_SC_PAGESIZE))    /* bytes of memory, of all readers before one is asked */
+/* bytes of memory, of all readers before one is asked */
+#define MOST_HELD (sysconf(_SC_PHYS_PAGES) / 2 * sysconf(_SC_PAGESIZE))
 
 struct reader {
     struct reader *next;
@@ -68,7 +70,8 @@ static void stop_all(void) {
         if (r->answers) stop(r);
 }
 
-/* A file that is there twice, as a library that was loaded again, has one. None asks a server for debug information. */
+/* A file that is there twice, as a library that was loaded again, has one. None asks a server for
+   debug information. */
 struct reader *open_reader(const char *path) {
     for (struct reader *r = readers; r; r = r->next)
         if (!strcmp(r->path, path)) return r;
@@ -82,7 +85,8 @@ struct reader *open_reader(const char *path) {
     readers = r;
     r->path = path;
     if (!strchr(path, '/')) return r;      /* it is no file, as the kernel's own library */
-    if (socketpair(AF_UNIX, SOCK_STREAM | SOCK_CLOEXEC, 0, ends)) die("cannot make a socket: %s", strerror(errno));
+    if (socketpair(AF_UNIX, SOCK_STREAM | SOCK_CLOEXEC, 0, ends))
+        die("cannot make a socket: %s", strerror(errno));
     if (!(r->answers = fdopen(ends[0], "r"))) die("out of memory");
     if (!spawn(r, ends[1])) r->process = 0;
     close(ends[1]);
@@ -108,7 +112,9 @@ static void end_reader(struct reader *r, const char *why) {
     int status = stop(r);
     if (!why) why = why_ended(r, status);
     if (why) fprintf(stderr, "shb-std: %s: names and places may be addresses, for %s\n", r->path, why);
-    else if (!is_said++) fprintf(stderr, "shb-std: names and places are addresses, for %s can't be run; it needs libdw.so.1 of elfutils\n", program());
+    else if (!is_said++)
+        fprintf(stderr, "shb-std: names and places are addresses, for %s can't be run; it needs libdw.so.1 "
+                        "of elfutils\n", program());
 }
 
 /* Have all readers together taken no more time than they may? */
@@ -130,12 +136,14 @@ static u64 held_by(const struct reader *r) {
     snprintf(text, sizeof text, "/proc/%d/status", r->process);
     FILE *file = fopen(text, "re");
     while (file && fgets(text, sizeof text, file))
-        if (sscanf(text, "RssAnon: %lu", &part) == 1 || sscanf(text, "VmSwap: %lu", &part) == 1) all += part << 10;
+        if (sscanf(text, "RssAnon: %lu", &part) == 1 || sscanf(text, "VmSwap: %lu", &part) == 1)
+            all += part << 10;
     if (file) fclose(file);
     return all;
 }
 
-/* Before another reader is asked: ends the one that holds most where all hold too much. Only the one that was asked last has grown. */
+/* Before another reader is asked: ends the one that holds most where all hold too much. Only the one that was
+   asked last has grown. */
 static void limit_memory(struct reader *r) {
     static struct reader *last;
     struct reader *most = r;

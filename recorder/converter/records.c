@@ -25,7 +25,9 @@ static uintptr_t at_hand;              /* where record 0 would stand, if all bef
 static const u64 *contexts_at_hand;    /* the same; or null */
 u64 records_end, carried_count;
 
-static inline const struct record *record_at(u64 i) { return (const struct record *)(at_hand + i * sizeof(struct record)); }
+static inline const struct record *record_at(u64 i) {
+    return (const struct record *)(at_hand + i * sizeof(struct record));
+}
 
 static void have_at_hand(const struct record *from, u64 count) {
     at_hand = (uintptr_t)from - records_end * sizeof *from;
@@ -53,7 +55,8 @@ void next_records(void) {
     forget_before(entry_at);
     if (records_end < carried_count) have_at_hand(carried, carried_count);
     else if (merged) {
-        if (!(count = merge(merged, late_contexts, AT_ONCE, &entry_at))) is_damaged("an access that is late has no place");
+        if (!(count = merge(merged, late_contexts, AT_ONCE, &entry_at)))
+            is_damaged("an access that is late has no place");
         have_at_hand(merged, count);
     } else {
         have_at_hand(&entries[entry_at], count);
@@ -67,7 +70,8 @@ u64 caller_of(u64 i) { return record_at(i)->what & LOW_48_BITS; }
 u64 late_context(u64 i) { return contexts_at_hand ? contexts_at_hand[i] % IS_REPEATED : 0; }
 int is_repeated(u64 i) { return contexts_at_hand && contexts_at_hand[i] / IS_REPEATED; }
 
-/* ---- threads: a number is used again by the next one that is forked with it, for the one before is over ---- */
+/* ---- threads: a number is used again by the next one that is forked with it, for the one before is
+   over ---- */
 static u32 thread_count;               /* of those met in this pass */
 static u32 with_number[THREAD_NUMBERS];
 static uint8_t is_used[THREAD_NUMBERS]; /* by one that was forked, or was there when a segment began */
@@ -144,18 +148,21 @@ static int is_good(const struct record *r) {
     enum operation operation = operation_in(*r);
     if (operation <= OP_SIZE || operation >= OP_LATE || r->where >> 48 >= THREAD_NUMBERS) return 0;
     if (is_access(r) && size_in(r) > 16 && !(r->what >> 54 & IS_RANGE)) return 0;
-    if (size_follows(r) && (operation_in(r[1]) != OP_SIZE || size_follows(r + 1) || size_in(r) >= MAX_SIZE)) return 0;
+    if (size_follows(r) && (operation_in(r[1]) != OP_SIZE || size_follows(r + 1) || size_in(r) >= MAX_SIZE))
+        return 0;
     if (operation == OP_FRAME) return size_in(r) < MOST_FRAMES;
     if (operation == OP_CONTEXT) return !size_in(r);
     if (operation == OP_NAME) return size_in(r) == 0 || size_in(r) == NAME_PIECE;
     return (operation != OP_FORK && operation != OP_JOIN) || (r->where & LOW_48_BITS) < THREAD_NUMBERS;
 }
 
-/* The entry or the two at `r`, which are of the first `count` ones. Returns how many they are; 0 if they aren't whole. */
+/* The entry or the two at `r`, which are of the first `count` ones. Returns how many they are; 0 if they
+   aren't whole. */
 static u64 check(const struct record *r, u64 i, u64 count) {
     if (!r[i].what || (is_of_two(r[i]) && (i + 1 == count || !r[i + 1].what))) return 0;
     const struct record *its = &r[i + is_late(r[i])];
-    if (!is_good(its) || (is_late(r[i]) && !is_good_late(r[i].where, *its, i))) die("record %lu of %s is damaged", i + 1, record_path);
+    if (!is_good(its) || (is_late(r[i]) && !is_good_late(r[i].where, *its, i)))
+        die("record %lu of %s is damaged", i + 1, record_path);
     note_number(its->where >> 48);
     if (operation_in(*its) == OP_FORK || operation_in(*its) == OP_JOIN) note_number(its->where & LOW_48_BITS);
     return 1 + is_of_two(r[i]);
@@ -177,8 +184,10 @@ static void check_entries(u64 most) {
         for (; more; more--, entry_count++) sum += entry_sum(entry_count, entries[entry_count]);
         forget_before(entry_count);
     }
-    if (has_sum && entry_count < whole_count) die("%s was cut: %lu of its %lu records are there", record_path, entry_count, whole_count);
-    if (has_sum && (entry_count > whole_count || sum != whole_sum)) die("%s was changed after it was recorded", record_path);
+    if (has_sum && entry_count < whole_count)
+        die("%s was cut: %lu of its %lu records are there", record_path, entry_count, whole_count);
+    if (has_sum && (entry_count > whole_count || sum != whole_sum))
+        die("%s was changed after it was recorded", record_path);
     record_count = has_late ? find_late(entries, entry_count) : entry_count;
     if (!has_late) return;
     merged = zeroed(AT_ONCE + 1, sizeof *merged);
@@ -211,7 +220,8 @@ static void note_how_it_ended(const char *how) {
 static void refuse(const char *file, const char *path) {
     size_t before = strcspn(RECORD_MAGIC, "0123456789"), digits = strspn(file + before, "0123456789");
     if (strncmp(file, RECORD_MAGIC, before) || !digits || digits > 9) die("%s is no record", path);
-    die("%s is a record of version %.*s, by another version of the recorder; this shb-std reads version %.*s", path,
+    die("%s is a record of version %.*s, by another version of the recorder; this shb-std reads version %.*s",
+        path,
         (int)digits, file + before, (int)strcspn(RECORD_MAGIC + before, "\n"), RECORD_MAGIC + before);
 }
 
@@ -245,12 +255,14 @@ void carry_blocks(const char *path) {
 
 /* ---- what a record accesses ---- */
 /* The memory order of an atomic access or a fence: does it take over what a release gave, does it give on? */
-static u64 order_of(u64 i) { return operation_of(i) == OP_FENCE ? size_of(i) : size_of(i) >> ATOMIC_SIZE_BITS; }
+static u64 order_of(u64 i) {
+    return operation_of(i) == OP_FENCE ? size_of(i) : size_of(i) >> ATOMIC_SIZE_BITS;
+}
 int acquires(u64 i) { return order_of(i) != __ATOMIC_RELAXED && order_of(i) != __ATOMIC_RELEASE; }
 int releases(u64 i) { return order_of(i) >= __ATOMIC_RELEASE; }
 
-/* The use of a lock is a read of its first byte.  A descriptor is no memory; who leaves a barrier uses it no more, for
-   POSIX lets another thread end it then. */
+/* The use of a lock is a read of its first byte.  A descriptor is no memory; who leaves a barrier uses it no
+   more, for POSIX lets another thread end it then. */
 static int uses_object(u64 i) {
     enum operation operation = operation_of(i);
     return address_of(i) < FIRST_DESCRIPTOR && operation >= OP_LOCK && operation <= OP_USE

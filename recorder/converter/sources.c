@@ -1,20 +1,27 @@
-/* Names of source files: the shortest end of a file's path that no other file's path ends in; at most the path from the folder
-   that all files of the program have in common. Or, if one was named, the path from there (--strip). */
+/* Names of source files: the shortest end of a file's path that no other file's path ends in; at most the
+   path from the folder that all files of the program have in common. Or, if one was named, the path from
+   there (--strip). */
 #include <stdio.h>
 #include <stdlib.h>
 #include <string.h>
 #include "converter.h"
 
 static const char *stripped;
-static VECTOR(char *) sources;         /* as by normal_path, each once; when they are named, sorted by their ends */
+/* as by normal_path, each once; when they are named, sorted by their ends */
+static VECTOR(char *) sources;
 static u64 sorted_count;
-static u64 common_length;              /* of the folder that the program's own have in common, with its last '/' */
+/* of the folder that the program's own have in common, with its last '/' */
+static u64 common_length;
 
-/* Rust's own library, which programs mostly have as it was compiled without hooks, but for what is generic. */
-int in_rust_library(const char *path) { return !strncmp(path, "/rustc/", 7) || strstr(path, "/lib/rustlib/src/"); }
+/* Rust's own library, which programs mostly have as it was compiled without hooks, but for what
+   is generic. */
+int in_rust_library(const char *path) {
+    return !strncmp(path, "/rustc/", 7) || strstr(path, "/lib/rustlib/src/");
+}
 
 int in_system(const char *path) {
-    return !strncmp(path, "/usr/", 5) || !strncmp(path, "/lib", 4) || strstr(path, "/include/c++/") || strstr(path, "/lib/gcc/")
+    return !strncmp(path, "/usr/", 5) || !strncmp(path, "/lib", 4) || strstr(path, "/include/c++/")
+        || strstr(path, "/lib/gcc/")
         || in_rust_library(path);
 }
 
@@ -46,7 +53,8 @@ static u64 common_end(const char *one, const char *two) {
 static int by_end(const void *a, const void *b) {
     const char *one = *(char *const *)a, *two = *(char *const *)b;
     u64 same = common_end(one, two), length = strlen(one), other = strlen(two);
-    unsigned char x = same < length ? one[length - same - 1] : 0, y = same < other ? two[other - same - 1] : 0;
+    unsigned char x = same < length ? one[length - same - 1] : 0,
+        y = same < other ? two[other - same - 1] : 0;
     return x - y;
 }
 

@@ -1,35 +1,59 @@
-/* Call stacks: of each event of the trace, of each thread's creation and of the allocation of each block that is named.
+/* Call stacks: of each event of the trace, of each thread's creation and of the allocation of each block
+   that is named.
 
-   A stack is a node of a tree: the innermost call with its stack further out.  The file begins with STACKS_BEGIN and the
-   number of events, then has a node's number of 4 bytes for each event (0: not known), then lines:
-       frame FUNCTION TAB LOCATION                   numbered from 1; the function or the location may be empty. The function
-                                                     __tsan_create_fiber made the fiber that those further in are of, and
+   A stack is a node of a tree: the innermost call with its stack further out.  The file begins with
+   STACKS_BEGIN and the number of events, then has a node's number of 4 bytes for each event (0: not known),
+   then lines:
+       frame FUNCTION TAB LOCATION                   numbered from 1; the function or the location may be
+       empty. The function
+                                                     __tsan_create_fiber made the fiber that those further in
+                                                     are of, and
                                                      "signal handler" interrupted what is further out
        system-frame FUNCTION TAB LOCATION            the same, numbered on, of code in /usr or /lib
-       stack NODE OUTER FRAME FRAME..                the frames of a node's innermost call, the innermost first (of inlined
-                                                     code there are several), and the node of the stack further out, or 0
+       stack NODE OUTER FRAME FRAME..                the frames of a node's innermost call, the innermost
+       first (of inlined
+                                                     code there are several), and the node of the stack
+                                                     further out, or 0
        thread NAME TAB NODE                          where the thread was created
        block NUMBER NODE                             where the block was allocated
        free FIRST LAST                               these events are of one call that freed a block
-       local EVENT TAB VARIABLE TAB NAME             from this event on the variable, which is on a stack, is this local of a
-                                                     function that the stack's thread is in, as "x.head of main"; or of none
-                                                     that is known, where the name is empty. With 0 for EVENT: the variable,
-                                                     which is in a block of the heap, is at all events this member of the
-                                                     block's type, as "Account.balance"; with " of FILE:LINE#NUMBER", the
-                                                     block's name, where several blocks of the trace have this type,
-                                                     or a static variable has its name; or the program's part of a static's
-       use EVENT TAB NAME TAB THREAD TAB LOCATION TAB KIND ORDER       a use before this event of an atomic that several threads use,
-                                                     whether or not it is an event: a load, store or update with the order
-                                                     relaxed, acquire, release or both. In the order in which they happened
-                                                     each store and update, and each thread's first load of what another
-                                                     thread stored. A store after a release fence is one with release. Of a
-                                                     fence with acquire the kind is fence, and NAME is empty. Of a page's
-                                                     trace only those within its spans. Behind ORDER " again": it stands for
+       local EVENT TAB VARIABLE TAB NAME             from this event on the variable, which is on a stack, is
+       this local of a
+                                                     function that the stack's thread is in, as "x.head of
+                                                     main"; or of none
+                                                     that is known, where the name is empty. With 0 for EVENT:
+                                                     the variable,
+                                                     which is in a block of the heap, is at all events this
+                                                     member of the
+                                                     block's type, as "Account.balance"; with " of
+                                                     FILE:LINE#NUMBER", the
+                                                     block's name, where several blocks of the trace have this
+                                                     type,
+                                                     or a static variable has its name; or the program's part
+                                                     of a static's
+       use EVENT TAB NAME TAB THREAD TAB LOCATION TAB KIND ORDER       a use before this event of an atomic
+       that several threads use,
+                                                     whether or not it is an event: a load, store or update
+                                                     with the order
+                                                     relaxed, acquire, release or both. In the order in which
+                                                     they happened
+                                                     each store and update, and each thread's first load of
+                                                     what another
+                                                     thread stored. A store after a release fence is one with
+                                                     release. Of a
+                                                     fence with acquire the kind is fence, and NAME is empty.
+                                                     Of a page's
+                                                     trace only those within its spans. Behind ORDER " again":
+                                                     it stands for
                                                      earlier ones of its kind too, which are omitted
-       crash THREAD TAB SIGNAL TAB ADDRESS TAB NODE  how the program ended, where a signal ended it that a thread's own code made; the
-                                                     address, hexadecimal, is what it had no access to, or empty
-       source NAME TAB PATH                          a source file, as locations name it, and where it was when it was compiled
-       line LOCATION TAB SUM                         of the text that a frame's line has now, without the blanks at its ends: 16
+       crash THREAD TAB SIGNAL TAB ADDRESS TAB NODE  how the program ended, where a signal ended it that a
+       thread's own code made; the
+                                                     address, hexadecimal, is what it had no access to, or
+                                                     empty
+       source NAME TAB PATH                          a source file, as locations name it, and where it was
+       when it was compiled
+       line LOCATION TAB SUM                         of the text that a frame's line has now, without the
+       blanks at its ends: 16
                                                      hexadecimal digits. Not where the file can't be read */
 #define _GNU_SOURCE
 #include <stdio.h>
@@ -71,8 +95,8 @@ void open_stacks(const char *path_) {
 }
 
 /* ---- the stack of each thread, as the record tells it ---- */
-/* As a record OP_PLACE has it. A function that seems to take more or less room than at the first call from there doesn't: then its return
-   address was left by another call. */
+/* As a record OP_PLACE has it. A function that seems to take more or less room than at the first call from
+   there doesn't: then its return address was left by another call. */
 static u64 place_at(u64 caller, u64 function) {
     static INTERNED(u64) sizes;        /* plus one */
     if (!has_place) return 0;
@@ -81,7 +105,8 @@ static u64 place_at(u64 caller, u64 function) {
     return *size == told ? told_place : 0;
 }
 
-/* A piece or an object on a stack: its name now, and how many records the stack's thread had at the last access by another one. */
+/* A piece or an object on a stack: its name now, and how many records the stack's thread had at the last
+   access by another one. */
 typedef struct { u64 at; u32 block; const char *name; u64 records; } named;
 static INTERNED(named) named_places;
 
@@ -94,7 +119,8 @@ static void write_local(u64 event, named *n, const char *name) {
     fputc('\n', lines);
 }
 
-/* The thread has left functions since its last record, nobody knows when: what others accessed in them meanwhile has no name. */
+/* The thread has left functions since its last record, nobody knows when: what others accessed in them
+   meanwhile has no name. */
 static void leave_functions(thread_calls *s) {
     EACH(f, s->foreign.at, s->foreign.count)
         if (f->depth >= s->depth || f->depth >= s->lowest)
@@ -121,7 +147,9 @@ static void note_frame(u64 i) {
     *PUSH(contexts) = added;
 }
 
-static u32 context_of_frame(u64 i) { return 1 + COUNT_BEFORE(k, contexts.count - 2, contexts.at[k + 1].record < i); }
+static u32 context_of_frame(u64 i) {
+    return 1 + COUNT_BEFORE(k, contexts.count - 2, contexts.at[k + 1].record < i);
+}
 
 /* That a record tells. */
 static u32 context_of(u64 i) {
@@ -261,7 +289,8 @@ void begin_calls(int has_stacks) {
 }
 
 /* ---- locals ---- */
-/* By where a thread is in a function, which is the caller or the way; "" where none is known. Each is looked for once. */
+/* By where a thread is in a function, which is the caller or the way; "" where none is known. Each is looked
+   for once. */
 static const char *name_of_local(u64 function, const call *in, u64 from_top, u64 from_stack, u64 length) {
     static map places, ways;
     static INTERNED(const char *) names;
@@ -275,8 +304,8 @@ static const char *name_of_local(u64 function, const call *in, u64 from_top, u64
     return *name = is_known ? copied(text) : "";
 }
 
-/* By the functions that the thread is in by its last record. Where nothing was told since it came back to a function it is behind the
-   call that it came from. */
+/* By the functions that the thread is in by its last record. Where nothing was told since it came back to a
+   function it is behind the call that it came from. */
 static const char *local_at(const thread_calls *s, u64 address, u64 length, u32 *depth) {
     u64 outer = s->end;
     for (u64 d = 0; d < s->depth; d++) {
@@ -286,7 +315,8 @@ static const char *local_at(const thread_calls *s, u64 address, u64 length, u32 
         if (!c->place || address >= top) return "";
         call told = d + 1 < s->calls.count ? c[1] : (call){0};
         if (d + 1 == s->depth && s->caller) told = (call){.caller = s->caller, .way = s->way};
-        if (address >= stack) return name_of_local(c->function, &told, top - address, address - stack, length);
+        if (address >= stack)
+            return name_of_local(c->function, &told, top - address, address - stack, length);
         outer = stack;
     }
     return "";
@@ -370,7 +400,8 @@ void note_use(u64 i, u64 object, int gives) {
     const block *b = block_at(address_of(i));
     note_name(address_of(i), block_number(b), written + 1, t);
     part name = variable_name(address_of(i), b), place = place_of(caller_of(i));
-    fprintf(lines, "use %lu\t%.*s\t%s\t%.*s\t%s %s%s\n", written + 1, (int)name.length, name.at, thread_name(t), (int)place.length, place.at,
+    fprintf(lines, "use %lu\t%.*s\t%s\t%.*s\t%s %s%s\n", written + 1, (int)name.length, name.at,
+            thread_name(t), (int)place.length, place.at,
             is_load ? "load" : is_store ? "store" : "update", orders[acquires(i) + 2 * (!is_load && gives)],
             is_repeated(i) ? " again" : "");
 }
@@ -378,7 +409,8 @@ void note_use(u64 i, u64 object, int gives) {
 void note_fence(u64 i) {
     if (!notes_uses()) return;
     part place = place_of(caller_of(i));
-    fprintf(lines, "use %lu\t\t%s\t%.*s\tfence acquire\n", written + 1, thread_name(thread_of(i)), (int)place.length, place.at);
+    fprintf(lines, "use %lu\t\t%s\t%.*s\tfence acquire\n", written + 1, thread_name(thread_of(i)),
+            (int)place.length, place.at);
 }
 
 void note_free(u64 first, u64 last) {
@@ -397,9 +429,10 @@ static u32 frame_number(inlined_frame *f) {
 
 static inlined_frame *entered(u32 number) { return outermost(frames_of(node_at(number)->function)); }
 
-/* The node of the function that a node's call lies in: the next further out, where all hooks told. Functions that were left
-   without their hooks, MOST_LEFT at most, are passed over, where the one that the call lies in stands further out. Else code
-   without hooks lies in between, and the function that was entered last called it. */
+/* The node of the function that a node's call lies in: the next further out, where all hooks told. Functions
+   that were left without their hooks, MOST_LEFT at most, are passed over, where the one that the call lies in
+   stands further out. Else code without hooks lies in between, and the function that was entered last called
+   it. */
 static u32 called_in(u32 k) {
     u64 caller = node_at(k)->caller;
     u32 o = node_at(k)->outer;
@@ -410,18 +443,22 @@ static u32 called_in(u32 k) {
     return 0;
 }
 
-/* Not shown: the recorder's own, a way that isn't called in the function further out, and others' callers of the outermost function. */
+/* Not shown: the recorder's own, a way that isn't called in the function further out, and others' callers of
+   the outermost function. */
 static int is_outermost(const node *n) { return !n->outer && n->function; }
-static int is_shown(const node *n, const inlined_frame *f) { return !is_outermost(n) || (!f->in_system && f->line); }
+static int is_shown(const node *n, const inlined_frame *f) {
+    return !is_outermost(n) || (!f->in_system && f->line);
+}
 
 /* Null where none would be shown: they aren't asked for then. */
 static inlined_frame *frames_to_show(const node *n, u32 outer) {
-    if (is_of_recorder(n->caller) || (n->is_way && !outer) || (is_outermost(n) && is_of_system(n->caller))) return 0;
+    if (is_of_recorder(n->caller) || (n->is_way && !outer) || (is_outermost(n) && is_of_system(n->caller)))
+        return 0;
     return frames_of(n->caller);
 }
 
-/* The frames of a node's innermost call, and the node of the stack further out. Where code without hooks lies in between the
-   last frame is the function that called it. */
+/* The frames of a node's innermost call, and the node of the stack further out. Where code without hooks lies
+   in between the last frame is the function that called it. */
 typedef struct { inlined_frame *at[MOST_FRAMES_OF_A_CALL], between; int count; u32 outer; } shown_call;
 
 /* Does the recorder call a handler of a signal there? */
@@ -434,11 +471,13 @@ static void find_call(u32 k, shown_call *call) {
     u32 outer = called_in(k);
     const node *n = node_at(k);
     call->count = 0;
-    for (inlined_frame *f = frames_to_show(n, outer); f && call->count < MOST_FRAMES_OF_A_CALL - 1; f = f->outer)
+    for (inlined_frame *f = frames_to_show(n, outer); f
+         && call->count < MOST_FRAMES_OF_A_CALL - 1; f = f->outer)
         if (is_shown(n, f)) call->at[call->count++] = f;
     inlined_frame *last = !outer && n->outer ? entered(n->outer) : 0;
     if (last && *last->function) {     /* of the recorder's own only __tsan_create_fiber was entered */
-        call->between = (inlined_frame){.function = last->function, .location = "", .in_system_file = last->in_system_file};
+        call->between = (inlined_frame){.function = last->function, .location = "",
+                                        .in_system_file = last->in_system_file};
         call->at[call->count++] = &call->between;
     }
     if (calls_handler(n->caller)) {
@@ -498,7 +537,8 @@ void say_crash(void) {
         find_call(k, &call);
         for (int i = 0; i < call.count && said < MOST_SAID; i++) {
             const char *function = call.at[i]->function, *location = call.at[i]->location;
-            fprintf(stderr, "%s%s%s%s", said++ ? ", from " : ": ", function, *function && *location ? " " : "", location);
+            fprintf(stderr, "%s%s%s%s", said++ ? ", from " : ": ", function,
+                    *function && *location ? " " : "", location);
         }
     }
     fputc('\n', stderr);
@@ -521,8 +561,9 @@ void end_stacks(void) {
     if (fclose(lines)) die("out of memory");
     fwrite(lines_text, 1, lines_bytes, file);
     write_sources(file);
-    if (!has_calls && nodes_written) fprintf(stderr, "shb-std: no call stacks are known: the program was recorded with SHB_STACKS=0, or compiled without "
-                                               "hooks of functions\n");
+    if (!has_calls && nodes_written)
+        fprintf(stderr, "shb-std: no call stacks are known: the program was recorded with SHB_STACKS=0, or "
+                                               "compiled without hooks of functions\n");
     rewind(file);
     fprintf(file, STACKS_BEGIN, nodes_written);
     if (fflush(file) || ferror(file) || fclose(file)) cannot_write(path);

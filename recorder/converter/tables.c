@@ -25,8 +25,8 @@ void die(const char *format, ...) {
 
 void cannot_write(const char *path) { die("cannot write to %s: %s", path, strerror(errno)); }
 
-/* A long array is in large pages where the system has them: fewer faults, and fewer pages to look up. The whole mapping is,
-   with the allocator's words before the array; else it could not be moved when it grows. */
+/* A long array is in large pages where the system has them: fewer faults, and fewer pages to look up. The
+   whole mapping is, with the allocator's words before the array; else it could not be moved when it grows. */
 static void *in_large_pages(void *array, size_t bytes) {
     enum { LONG = 4 << 20, PAGE = 4096 };
     u64 from = (u64)array & -PAGE, end = ((u64)array + bytes + PAGE - 1) & -PAGE;
@@ -60,8 +60,10 @@ char *text_of(const char *path, u64 *size) {
 }
 
 void *mapped(size_t count, size_t size) {
-    void *p = mmap(0, count * size, PROT_READ | PROT_WRITE, MAP_PRIVATE | MAP_ANONYMOUS | MAP_NORESERVE, -1, 0);
-    if (p == MAP_FAILED) die("there are too few addresses for its tables, which take 400 MB of them (ulimit -v)");
+    void *p = mmap(0, count * size, PROT_READ | PROT_WRITE, MAP_PRIVATE | MAP_ANONYMOUS | MAP_NORESERVE, -1,
+                   0);
+    if (p == MAP_FAILED)
+        die("there are too few addresses for its tables, which take 400 MB of them (ulimit -v)");
     return p;
 }
 
@@ -88,7 +90,8 @@ int by_number(const void *one, const void *other) {
 
 static map_entry *entry_of(const map *m, u64 a, u64 b) {
     u64 i = mix(a, b) & (m->capacity - 1);
-    while (m->entries[i].value && (m->entries[i].a != a || m->entries[i].b != b)) i = (i + 1) & (m->capacity - 1);
+    while (m->entries[i].value && (m->entries[i].a != a || m->entries[i].b != b))
+        i = (i + 1) & (m->capacity - 1);
     return &m->entries[i];
 }
 
@@ -131,11 +134,13 @@ u32 intern(map *numbers, u64 a, u64 b, void *array, u64 *capacity, size_t size) 
 /* A random number, the same in the whole call. */
 static u64 random_point(void) {
     static u64 point;
-    if (!point && getrandom(&point, sizeof point, 0) != sizeof point) die("cannot draw a random number: %s", strerror(errno));
+    if (!point && getrandom(&point, sizeof point, 0) != sizeof point)
+        die("cannot draw a random number: %s", strerror(errno));
     return point & prime;
 }
 
-/* A text as a polynomial modulo the prime, at the random point, so nobody can choose texts that are taken for one; and a plain sum. */
+/* A text as a polynomial modulo the prime, at the random point, so nobody can choose texts that are taken for
+   one; and a plain sum. */
 typedef struct { u64 random, plain; } sums;
 static sums sums_of(const char *text, u64 length) {
     sums s = {length, length};

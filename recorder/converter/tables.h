@@ -20,8 +20,10 @@ void *grown(void *array, u64 count, u64 *capacity, size_t size);
 /* An array that grows. PUSH points to a new entry at its end, which has to be written. */
 #define VECTOR(type) struct { type *at; u64 count, capacity; }
 #define PUSH(vector) \
-    ((vector).at = grown((vector).at, (vector).count, &(vector).capacity, sizeof *(vector).at), &(vector).at[(vector).count++])
-/* How many of the first `count` numbers k from 0 on are before something: `is_before`, of k, holds for these alone. */
+    ((vector).at = grown((vector).at, (vector).count, &(vector).capacity, sizeof *(vector).at), \
+        &(vector).at[(vector).count++])
+/* How many of the first `count` numbers k from 0 on are before something: `is_before`, of k, holds for
+   these alone. */
 #define COUNT_BEFORE(k, count, is_before) ({ \
     u64 its_low = 0, its_end = (count); \
     while (its_low < its_end) { \
@@ -33,8 +35,8 @@ void *grown(void *array, u64 count, u64 *capacity, size_t size);
 /* For each entry of an array, which may be null if it has none. */
 #define EACH(item, array, count) \
     for (__typeof__(array) item = (array); item && item < (array) + (count); item++)
-/* An array with an entry for each key of two words. INTERN returns its number, from 1, ENTRY its address; a new one
-   is zeros. */
+/* An array with an entry for each key of two words. INTERN returns its number, from 1, ENTRY its address; a
+   new one is zeros. */
 #define INTERNED(type) struct { map numbers; type *at; u64 capacity; }
 #define INTERN(table, a, b) \
     intern(&(table).numbers, (a), (b), &(table).at, &(table).capacity, sizeof *(table).at)

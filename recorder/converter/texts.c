@@ -1,5 +1,5 @@
-/* What the lines of code that frames are at have as text, as sums: a line that was changed is known as another one by whoever sees
-   traces of both, and nothing that stands in a file is told. */
+/* What the lines of code that frames are at have as text, as sums: a line that was changed is known as
+   another one by whoever sees traces of both, and nothing that stands in a file is told. */
 #define _GNU_SOURCE
 #include <stdio.h>
 #include <stdlib.h>
@@ -17,7 +17,9 @@ void note_line(const char *location) {
 }
 
 /* By name, then by line. */
-static int by_place(const void *a, const void *b) { return strverscmp(*(const char *const *)a, *(const char *const *)b); }
+static int by_place(const void *a, const void *b) {
+    return strverscmp(*(const char *const *)a, *(const char *const *)b);
+}
 
 /* The line of a location in a file; 0 of another file's. */
 static u64 line_in(const char *location, const char *name) {
@@ -44,7 +46,8 @@ static u64 sum_of_line(const char *from, const char *end) {
     return sum;
 }
 
-/* For a source file, by its name in locations: a line "line LOCATION TAB SUM" for each of its lines that a frame is at. */
+/* For a source file, by its name in locations: a line "line LOCATION TAB SUM" for each of its lines that a
+   frame is at. */
 void write_sums(FILE *file, const char *name, const char *path) {
     if (!locations.count) return;
     if (!is_sorted) qsort(locations.at, locations.count, sizeof *locations.at, by_place);

@@ -1,25 +1,28 @@
 /* What the passes know of each thread of a record. */
 
 enum { THREADS = 1 << 20 };            /* of a record, whose numbers may be used again */
-enum { WIDE = 32 };                    /* bytes of some texts that may be read: they are copied in such pieces */
+/* bytes of some texts that may be read: they are copied in such pieces */
+enum { WIDE = 32 };
 enum { THREAD_BYTES = 80 };            /* of a name */
 
-/* A call that it is in. way: where code without hooks was called that has the caller, or 0. own: the innermost of
-   the program's own places from here on further out, or 0. */
+/* A call that it is in. way: where code without hooks was called that has the caller, or 0. own: the
+   innermost of the program's own places from here on further out, or 0. */
 typedef struct {
     u64 caller, function, way, own;
     u64 place;                         /* as in a record OP_PLACE */
     u32 context, node;                 /* of the stack up to it */
 } call;
 
-/* An access by another thread of what lies in a function of a thread, since whose last record it is the first one.
-   `number` is that of what has a name. */
+/* An access by another thread of what lies in a function of a thread, since whose last record it is the first
+   one. `number` is that of what has a name. */
 typedef struct { u64 event; u32 number, depth; } foreign;
 
 typedef struct {
-    VECTOR(call) calls;                /* the outermost first; behind `length` are those that were met before */
+    /* the outermost first; behind `length` are those that were met before */
+    VECTOR(call) calls;
     u32 known, owned;                  /* of how many of the first the node is known, and the own place */
-    u32 told, in, length;              /* its context by the records before; that of `calls`, with its depth */
+    /* its context by the records before; that of `calls`, with its depth */
+    u32 told, in, length;
     u32 depth;                         /* of the present record */
     u64 way, caller;                   /* of the present one */
     u64 end;                           /* of its stack */
@@ -30,8 +33,8 @@ typedef struct {
     u64 last_caller, last_way;
 } thread_calls;
 
-/* A lock that it holds. key: of one that the program has its object, and whether it is a reader's. Once its acquire is in the trace lock
-   is its number there, and acquire that of the acquire. */
+/* A lock that it holds. key: of one that the program has its object, and whether it is a reader's. Once its
+   acquire is in the trace lock is its number there, and acquire that of the acquire. */
 typedef struct { u64 key, caller, acquire; u32 stack, lock; uint8_t is_again; } hold;
 #define ONLY_ORDERS (1ull << 63)       /* in the key of a lock of the trace's own */
 
@@ -43,16 +46,19 @@ typedef struct {
     u32 name_length;
     uint8_t is_named;                  /* has it a name besides its number? */
     uint8_t has_begun, is_forked, is_joined;                 /* in the trace (state.c) */
-    u64 epoch;                         /* it grows with each event of the thread that could order another, and each trace */
+    /* it grows with each event of the thread that could order another, and each trace */
+    u64 epoch;
     u32 forked_by;                     /* plus one */
     u32 created_at;                    /* a node of the file of stacks */
     thread_calls calls;                /* stacks.c */
     /* objects.c */
     VECTOR(hold) held;                 /* in the order in which they were taken */
-    u64 unwritten, locks;              /* so many acquires aren't in the trace; a sum of the program's locks that it holds */
+    /* so many acquires aren't in the trace; a sum of the program's locks that it holds */
+    u64 unwritten, locks;
     VECTOR(note) notes;                /* what it will take at its next fence */
     int is_fenced;                     /* by a release fence */
-    u64 gave_at, gave;                 /* its last record, and the object that it gave something by that; plus one */
+    /* its last record, and the object that it gave something by that; plus one */
+    u64 gave_at, gave;
 } thread_state;
 extern thread_state *threads;          /* records.c; by their numbers there */
 void forget_thread_states(void);       /* but their names, between passes that write */

@@ -1,5 +1,6 @@
-/* The type of what a call in the program's own code allocates, by the text of its line: one `new NAME`, or one `sizeof(NAME)`, where a type
-   of that name and size is in the unit. Debug information doesn't tell it. */
+/* The type of what a call in the program's own code allocates, by the text of its line: one `new NAME`, or
+   one `sizeof(NAME)`, where a type of that name and size is in the unit. Debug information doesn't tell
+   it. */
 #include <stdio.h>
 #include <stdlib.h>
 #include <string.h>
@@ -94,7 +95,8 @@ int type_by_text(struct debug *d, u64 pc, u64 size, Dwarf_Die *type) {
     debug_frame frames[MOST_INLINED];
     char line[LINE_BYTES], name[LINE_BYTES];
     Dwarf_Die unit;
-    int count = frames_at(d, pc, frames, MOST_INLINED), is_told = count && frames->function && !is_of_template(frames->function);
+    int count = frames_at(d, pc, frames, MOST_INLINED),
+        is_told = count && frames->function && !is_of_template(frames->function);
     for (int k = 0; k < count; k++) free(frames[k].function);
     if (!is_told || !frames->path || frames->line <= 0 || strstr(frames->path, "/include/c++/")) return 0;
     if (!find_unit(d, pc, &unit) || !read_line(frames->path, frames->line, line)) return 0;

@@ -1,5 +1,5 @@
-/* Names of what lies in blocks of the heap: in what the C++ library allocates by the function that does so, for what it gives has a type;
-   in others by the line. */
+/* Names of what lies in blocks of the heap: in what the C++ library allocates by the function that does so,
+   for what it gives has a type; in others by the line. */
 #include <stdio.h>
 #include <stdlib.h>
 #include <string.h>
@@ -23,7 +23,8 @@ static int origin_of(Dwarf_Die *function) {
     return follow(function, DW_AT_abstract_origin) || follow(function, DW_AT_specification);
 }
 
-/* What a function of the C++ library's gives so many bytes for: T of `T *allocate(size_t)` and of `make_unique<T>()`; 0 of any other. */
+/* What a function of the C++ library's gives so many bytes for: T of `T *allocate(size_t)` and of
+   `make_unique<T>()`; 0 of any other. */
 static int allocated_type(Dwarf_Die function, u64 size, Dwarf_Die *type) {
     static const char unique[] = "make_unique";
     int has_argument = 0, steps = 0;
@@ -78,10 +79,14 @@ int add_qualified_name(const Dwarf_Die *of, text *to) {
     return 0;
 }
 
-static int is_of_cxx_library(const char *type) { return !strncmp(type, "std::", 5) || !strncmp(type, "__gnu_cxx::", 11); }
+static int is_of_cxx_library(const char *type) {
+    return !strncmp(type, "std::", 5) || !strncmp(type, "__gnu_cxx::", 11);
+}
 
 /* Does the C++ library keep another type's object in this one? */
-static int is_buffer(const char *name) { return name && (!strncmp(name, "__aligned_membuf<", 17) || !strncmp(name, "__aligned_buffer<", 17)); }
+static int is_buffer(const char *name) {
+    return name && (!strncmp(name, "__aligned_membuf<", 17) || !strncmp(name, "__aligned_buffer<", 17));
+}
 
 /* Are several members of this type? Then one of it isn't told by the type alone. */
 static int has_two_of(Dwarf_Die *of, Dwarf_Die *type) {
@@ -89,12 +94,13 @@ static int has_two_of(Dwarf_Die *of, Dwarf_Die *type) {
     int found = 0;
     u64 place;
     for (int more = !dwarf_child(of, &e); more; more = !dwarf_siblingof(&e, &e))
-        found += dwarf_tag(&e) == DW_TAG_member && place_of_member(&e, &place) && type_of(&e, &other) && other.addr == type->addr;
+        found += dwarf_tag(&e) == DW_TAG_member && place_of_member(&e, &place) && type_of(&e, &other)
+            && other.addr == type->addr;
     return found > 1;
 }
 
-/* Goes on to the program's own type that has these bytes, from one of the C++ library's, as a node of a list is; adds its name. 0
-   where there is none. */
+/* Goes on to the program's own type that has these bytes, from one of the C++ library's, as a node of a list
+   is; adds its name. 0 where there is none. */
 static int find_own_type(Dwarf_Die *type, u64 *offset, u64 length, text *to) {
     Dwarf_Die named = *type;
     if (dwarf_tag(&named) == DW_TAG_typedef && plain_type(type) && !dwarf_diename(type))
@@ -111,15 +117,16 @@ static int find_own_type(Dwarf_Die *type, u64 *offset, u64 length, text *to) {
             *type = of;
             continue;
         }
-        if (!member_with(type, *offset, length, &member, &place) || !type_of(&member, &of) || has_two_of(type, &of)) return 0;
+        if (!member_with(type, *offset, length, &member, &place) || !type_of(&member, &of)
+            || has_two_of(type, &of)) return 0;
         *offset -= place;
         *type = of;
     }
     return 0;
 }
 
-/* The elements of a block of so many bytes. Before those of `new T[n]`, where T has a destructor, stands their number; what may be
-   either isn't known. */
+/* The elements of a block of so many bytes. Before those of `new T[n]`, where T has a destructor, stands
+   their number; what may be either isn't known. */
 typedef struct { u64 begin, size; } elements;
 static elements elements_of(Dwarf_Die *type, u64 size) {
     enum { COUNT = 8 };
@@ -151,7 +158,8 @@ static const allocation *allocated_at(struct debug *d, const place_in_block *at)
     Dwarf_Die function, type = {0};
     if (call->is_met) return call;
     int is_known = find_function(d, at->pc, &function)
-        && (allocated_type(innermost(d, function, at->pc), at->size, &type) || type_by_text(d, at->pc, at->size, &type));
+        && (allocated_type(innermost(d, function, at->pc), at->size, &type)
+            || type_by_text(d, at->pc, at->size, &type));
     if (!is_known) type.addr = 0;
     *call = (allocation){type, is_of_bits(d, at->pc), 1};
     return call;
@@ -202,15 +210,19 @@ size_t add_in_block(struct debug *d, place_in_block at, char *buffer, size_t siz
     u64 offset = (at.offset - all.begin) % all.size;
     if (at.length > all.size - offset) return 0;
     char index[24] = "";
-    if (at.size - all.begin > all.size) snprintf(index, sizeof index, "[%lu]", (at.offset - all.begin) / all.size);
+    if (at.size - all.begin > all.size)
+        snprintf(index, sizeof index, "[%lu]", (at.offset - all.begin) / all.size);
     return add_part(part_of(d, type, offset, at.length), index, buffer, size);
 }
 
-size_t add_by_use(struct debug *d, const object_in_block *object, u64 offset, u64 length, char *buffer, size_t size) {
+size_t add_by_use(struct debug *d, const object_in_block *object, u64 offset, u64 length, char *buffer,
+                  size_t size) {
     char index[24] = "";
     u64 begin = object->begin;
-    if (offset < begin || offset - begin >= object->size || length > object->size - (offset - begin)) return 0;
-    if (object->is_element && begin % object->size == 0) snprintf(index, sizeof index, "[%lu]", begin / object->size);
+    if (offset < begin || offset - begin >= object->size || length > object->size - (offset - begin))
+        return 0;
+    if (object->is_element && begin % object->size == 0)
+        snprintf(index, sizeof index, "[%lu]", begin / object->size);
     else if (begin) snprintf(index, sizeof index, "+%lu", begin);
     return add_part(part_of(d, object->type, offset - begin, length), index, buffer, size);
 }

@@ -14,7 +14,8 @@ static int has_section(Elf *elf, const char *name) {
     if (elf_getshdrstrndx(elf, &names)) return 0;
     for (Elf_Scn *s = 0; (s = elf_nextscn(elf, s));) {
         GElf_Shdr header;
-        const char *found = gelf_getshdr(s, &header) && header.sh_type != SHT_NOBITS ? elf_strptr(elf, names, header.sh_name) : 0;
+        const char *found = gelf_getshdr(s, &header)
+            && header.sh_type != SHT_NOBITS ? elf_strptr(elf, names, header.sh_name) : 0;
         if (found && !strcmp(found, name)) return 1;
     }
     return 0;
@@ -45,7 +46,8 @@ static int note_functions(void *to, Dwarf_Die *e) {
 static int lacks_type(Dwarf_Die *e, unsigned attribute) {
     Dwarf_Die to;
     Dwarf_Attribute a;
-    return dwarf_attr(e, attribute, &a) && dwarf_whatform(&a) == DW_FORM_ref_sig8 && !dwarf_formref_die(&a, &to);
+    return dwarf_attr(e, attribute, &a) && dwarf_whatform(&a) == DW_FORM_ref_sig8
+        && !dwarf_formref_die(&a, &to);
 }
 
 /* As 0.188 in split files. */
@@ -73,13 +75,19 @@ static const char *why_in_part(struct debug *d) {
     int has_shared = dwarf_getalt(d->dwarf) != 0;
     functions f = {0};
     EACH(u, d->units.at, d->units.count) each_entry(&u->whole, note_functions, &f);
-    if (!has_shared && has_section(elf, ".debug_sup")) return "is in part in a file that this version of libdw doesn't read (dwz --dwarf-5)";
+    if (!has_shared && has_section(elf, ".debug_sup"))
+        return "is in part in a file that this version of libdw doesn't read (dwz --dwarf-5)";
     if (d->is_alien || (!has_shared && has_section(elf, ".gnu_debugaltlink")))
         return "is in part in a file that isn't there, or not of this build (dwz -m)";
-    if (d->is_in_objects) return "is in object files that this version of libdw doesn't read (-gsplit-dwarf=single)";
-    if (d->lacks_split && has_package(d)) return "is in a package that this version of libdw doesn't read (.dwp)";
-    if (d->lacks_split) return "is in other files that aren't there, not of this build, or of a form that this version of libdw doesn't read (-gsplit-dwarf)";
-    if (lacks_types(d)) return "has types that this version of libdw doesn't read (-gsplit-dwarf -fdebug-types-section)";
+    if (d->is_in_objects)
+        return "is in object files that this version of libdw doesn't read (-gsplit-dwarf=single)";
+    if (d->lacks_split && has_package(d))
+        return "is in a package that this version of libdw doesn't read (.dwp)";
+    if (d->lacks_split)
+        return "is in other files that aren't there, not of this build, or of a form that this version of "
+               "libdw doesn't read (-gsplit-dwarf)";
+    if (lacks_types(d))
+        return "has types that this version of libdw doesn't read (-gsplit-dwarf -fdebug-types-section)";
     return !f.has_code ? no_debug_information : f.has_types ? 0 : "has no types (-g1)";
 }
 
@@ -88,8 +96,11 @@ const char *why_unread(struct debug *d) {
     read_units(d);
     if (!elf) return 0;
     int has_info = has_section(elf, ".debug_info") || has_section(elf, ".zdebug_info");
-    if (has_info && !d->units.count) return "can't be read: it is too large, damaged, or compressed in a form that isn't known (-gz)";
-    if (!d->dwarf) return has_section(elf, ".gnu_debuglink") ? "is in a file that isn't there (.gnu_debuglink)" : no_debug_information;
+    if (has_info && !d->units.count)
+        return "can't be read: it is too large, damaged, or compressed in a form that isn't known (-gz)";
+    if (!d->dwarf)
+        return has_section(elf, ".gnu_debuglink") ? "is in a file that isn't there (.gnu_debuglink)"
+            : no_debug_information;
     return why_in_part(d);
 }
 
@@ -99,13 +110,16 @@ static int is_of_other_build(Dwarf *dwarf) {
     const void *wanted, *found;
     Dwarf *shared = dwarf_getalt(dwarf);
     ssize_t length = shared ? dwelf_dwarf_gnu_debugaltlink(dwarf, &name, &wanted) : 0;
-    return shared && (length <= 0 || dwelf_elf_gnu_build_id(dwarf_getelf(shared), &found) != length || memcmp(wanted, found, length));
+    return shared
+        && (length <= 0 || dwelf_elf_gnu_build_id(dwarf_getelf(shared), &found) != length
+            || memcmp(wanted, found, length));
 }
 
 /* ---- modules ---- */
 struct debug *open_debug(const char *path) {
     static char *folders;              /* as the debuggers' */
-    static const Dwfl_Callbacks callbacks = {.find_elf = dwfl_build_id_find_elf, .find_debuginfo = dwfl_standard_find_debuginfo,
+    static const Dwfl_Callbacks callbacks = {.find_elf = dwfl_build_id_find_elf,
+                                             .find_debuginfo = dwfl_standard_find_debuginfo,
                                              .debuginfo_path = &folders};
     struct debug *d = zeroed(1, sizeof *d);
     d->path = path;
@@ -142,7 +156,9 @@ static int is_behind(const Dwarf_Die *e, const void **last) {
     return 1;
 }
 
-int first_entry(Dwarf_Die *in, Dwarf_Die *e, const void **last) { return !dwarf_child(in, e) && is_behind(e, last); }
+int first_entry(Dwarf_Die *in, Dwarf_Die *e, const void **last) {
+    return !dwarf_child(in, e) && is_behind(e, last);
+}
 int next_entry(Dwarf_Die *e, const void **last) { return !dwarf_siblingof(e, e) && is_behind(e, last); }
 
 static int each_inside(Dwarf_Die *in, take_entry take, void *to, const void **last, int depth) {
@@ -162,7 +178,8 @@ void each_entry(Dwarf_Die *in, take_entry take, void *to) {
 
 /* As functions in a lambda's type. */
 int may_have_types(int tag) {
-    return tag == DW_TAG_subprogram || tag == DW_TAG_namespace || tag == DW_TAG_structure_type || tag == DW_TAG_class_type
+    return tag == DW_TAG_subprogram || tag == DW_TAG_namespace || tag == DW_TAG_structure_type
+        || tag == DW_TAG_class_type
         || tag == DW_TAG_union_type || tag == DW_TAG_lexical_block || tag == DW_TAG_module;
 }
 
@@ -247,7 +264,8 @@ int has_code(const struct debug *d, Dwarf_Die *die, u64 pc) { return dwarf_haspc
 /* A path that is told from the folder of the compilation, whole: a copy where it isn't the same. */
 static const char *whole_path(unit *u, const char *path) {
     Dwarf_Attribute a;
-    const char *folder = path && *path != '/' && dwarf_attr(&u->linked, DW_AT_comp_dir, &a) ? dwarf_formstring(&a) : 0;
+    const char *folder = path && *path != '/' && dwarf_attr(&u->linked, DW_AT_comp_dir, &a)
+        ? dwarf_formstring(&a) : 0;
     char *whole;
     if (!folder) return path;
     if (asprintf(&whole, "%s/%s", folder, path) < 0) die("out of memory");
@@ -257,7 +275,8 @@ static const char *whole_path(unit *u, const char *path) {
 static char *name_of_function(Dwarf_Die *die) {
     Dwarf_Attribute a;
     const char *linked = 0, *name = 0;
-    if (dwarf_attr_integrate(die, DW_AT_linkage_name, &a) || dwarf_attr_integrate(die, DW_AT_MIPS_linkage_name, &a)) linked = dwarf_formstring(&a);
+    if (dwarf_attr_integrate(die, DW_AT_linkage_name, &a)
+        || dwarf_attr_integrate(die, DW_AT_MIPS_linkage_name, &a)) linked = dwarf_formstring(&a);
     if (!linked) name = dwarf_diename(die);
     char *told = linked && is_of_other(linked) ? told_name(die) : 0;
     return told ? told : linked || name ? demangled(linked ? linked : name) : 0;
@@ -271,7 +290,8 @@ int scopes_at(Dwarf_Die function, u64 pc, Dwarf_Die *scopes, int most) {
         found = 0;
         for (int more = !dwarf_child(&scope, &e); more && !found; more = found || !dwarf_siblingof(&e, &e)) {
             int tag = dwarf_tag(&e);
-            found = (tag == DW_TAG_lexical_block || tag == DW_TAG_inlined_subroutine) && dwarf_haspc(&e, pc) > 0;
+            found = (tag == DW_TAG_lexical_block || tag == DW_TAG_inlined_subroutine)
+                && dwarf_haspc(&e, pc) > 0;
             if (found && tag == DW_TAG_inlined_subroutine && count < most) scopes[count++] = e;
             if (found) scope = e;
         }

@@ -1,4 +1,5 @@
-/* Debug information of a module, and its symbols, as libdw of the elfutils reads them. Addresses are those of the module's file. */
+/* Debug information of a module, and its symbols, as libdw of the elfutils reads them. Addresses are those of
+   the module's file. */
 #include <ctype.h>
 #include <dwarf.h>
 #include <elfutils/libdw.h>
@@ -8,17 +9,21 @@
 
 enum { MOST_STEPS = 64, MOST_DIMENSIONS = 8 };
 
-typedef struct { u64 at, size; const char *linked; char *name; int is_twice, is_function; } symbol;      /* name: null until it is asked for */
+/* name: null until it is asked for */
+typedef struct { u64 at, size; const char *linked; char *name; int is_twice, is_function; } symbol;
 
 typedef struct { u64 low, high; Dwarf_Die at; } code;        /* of a function */
-/* Its entry in the linked file, and where all of it is (-gsplit-dwarf); its functions, sorted, once one was asked for. */
+/* Its entry in the linked file, and where all of it is (-gsplit-dwarf); its functions, sorted, once one was
+   asked for. */
 typedef struct { Dwarf_Die linked, whole; VECTOR(code) functions; int is_indexed; } unit;
 typedef struct { u64 low, high, unit; } span;
-typedef struct { char *type, *rest; int is_met; } named_part;          /* "Account", ".balance"; null where there is no such type */
+/* "Account", ".balance"; null where there is no such type */
+typedef struct { char *type, *rest; int is_met; } named_part;
 
-typedef struct { Dwarf_Die type; int is_of_bits, is_met; } allocation;         /* a type without an address isn't known */
-/* What an expression means: its type, the type of what a pointer in it points to last, and how far inside of that it
-   lies, or at least if it is open (an index, bits). Is it a lock that a call gets? */
+/* a type without an address isn't known */
+typedef struct { Dwarf_Die type; int is_of_bits, is_met; } allocation;
+/* What an expression means: its type, the type of what a pointer in it points to last, and how far inside of
+   that it lies, or at least if it is open (an index, bits). Is it a lock that a call gets? */
 typedef struct {
     Dwarf_Die type, object;
     int has_object, has_member, is_open, is_element, is_lock, is_met;
@@ -34,8 +39,10 @@ struct debug {
     VECTOR(unit) units;
     VECTOR(span) spans;                /* the code of units, sorted */
     VECTOR(symbol) symbols;            /* sorted */
-    int has_symbols, has_doubles, has_units, has_variables;  /* are they read? Of variables: 1 those outside of functions, 2 all */
-    uint8_t lacks_split, is_in_objects, is_alien;            /* units that are in other files, in object files; a file of another build */
+    /* are they read? Of variables: 1 those outside of functions, 2 all */
+    int has_symbols, has_doubles, has_units, has_variables;
+    /* units that are in other files, in object files; a file of another build */
+    uint8_t lacks_split, is_in_objects, is_alien;
     INTERNED(Dwarf_Die) variables;     /* by their addresses */
     INTERNED(allocation) calls;
     INTERNED(named_part) parts;        /* what lies inside of what calls allocate */
@@ -46,10 +53,12 @@ struct debug {
 
 /* symbols.c */
 char *demangled(const char *name);     /* a copy, also of a name that isn't mangled */
-const symbol *symbol_from(struct debug *d, u64 address);     /* that is there, or the first one behind it, with its name; null where there is none */
+/* that is there, or the first one behind it, with its name; null where there is none */
+const symbol *symbol_from(struct debug *d, u64 address);
 int is_variable(struct debug *d, const char *name);          /* has one this name? */
 
-/* Is it a name of Rust, Fortran or D, or one with a tag, as "x[abi:cxx11]"? The debug information has the program's own. */
+/* Is it a name of Rust, Fortran or D, or one with a tag, as "x[abi:cxx11]"? The debug information has the
+   program's own. */
 int is_of_other(const char *linked);
 char *told_name(const Dwarf_Die *of);  /* "next_id::last", of a function or variable; null if there is none */
 
@@ -58,23 +67,26 @@ struct debug *open_debug(const char *path);
 void read_units(struct debug *d);
 const char *why_unread(struct debug *d);                     /* what of it isn't read, or null */
 int has_own_lines(struct debug *d);    /* in the module's file itself */
-/* The first child of an entry, and the next one: in a file that isn't what it should be, only those behind all met before, so that
-   none is met often. */
+/* The first child of an entry, and the next one: in a file that isn't what it should be, only those behind
+   all met before, so that none is met often. */
 int first_entry(Dwarf_Die *in, Dwarf_Die *e, const void **last);
 int next_entry(Dwarf_Die *e, const void **last);
 /* Gives each of these until `take` returns STOP; where it returns GO_IN, those inside before the next one. */
 enum { STOP = -1, GO_ON, GO_IN };
 typedef int (*take_entry)(void *to, Dwarf_Die *e);
 void each_entry(Dwarf_Die *in, take_entry take, void *to);
-int find_function(struct debug *d, u64 pc, Dwarf_Die *function);         /* that has this code; 0 where none is known */
+/* that has this code; 0 where none is known */
+int find_function(struct debug *d, u64 pc, Dwarf_Die *function);
 int find_unit(struct debug *d, u64 pc, Dwarf_Die *whole);    /* the same */
 int may_have_types(int tag);           /* may an entry have functions or types in it? */
 int has_code(const struct debug *d, Dwarf_Die *die, u64 pc);
-/* A function, and what is inlined in it at a place in the code, the outermost first; addresses are as the debug information has them. */
+/* A function, and what is inlined in it at a place in the code, the outermost first; addresses are as the
+   debug information has them. */
 int scopes_at(Dwarf_Die function, u64 pc, Dwarf_Die *scopes, int most);
 /* The frames at a place in the code, the innermost first; what isn't known is null, and 0. */
 typedef struct { char *function; const char *path; int line; } debug_frame;
-int line_at(struct debug *d, u64 pc, const char **path, int *line, int *column);         /* 0: it isn't known */
+/* 0: it isn't known */
+int line_at(struct debug *d, u64 pc, const char **path, int *line, int *column);
 int frames_at(struct debug *d, u64 pc, debug_frame *frames, int most);
 void each_source(struct debug *d, void (*give)(const char *path));
 
@@ -82,36 +94,42 @@ void each_source(struct debug *d, void (*give)(const char *path));
 Dwarf_Die *variable_at(struct debug *d, u64 address);       /* null if there is none */
 /* The same type without typedefs and qualifiers; 0 where there is none. */
 int plain_type(Dwarf_Die *type);
-int follow(Dwarf_Die *die, unsigned attribute);              /* to the entry that the attribute names; 0 if there is none */
+/* to the entry that the attribute names; 0 if there is none */
+int follow(Dwarf_Die *die, unsigned attribute);
 int named_type(Dwarf_Die *of, Dwarf_Die *type);
 int type_of(Dwarf_Die *of, Dwarf_Die *type);                 /* plain */
 u64 size_of_type(Dwarf_Die *type);     /* in bytes; 0 where it isn't known */
 /* The member, or the base class, that has all of these bytes, and where it begins; 0 where there is none. */
 int member_with(Dwarf_Die *of, u64 offset, u64 length, Dwarf_Die *member, u64 *place);
 int place_of_member(Dwarf_Die *member, u64 *place);
-int place_of_bits(Dwarf_Die *member, u64 *place, u64 *length);           /* the same of a bit field, in bits */
+/* the same of a bit field, in bits */
+int place_of_bits(Dwarf_Die *member, u64 *place, u64 *length);
 int is_structure(Dwarf_Die *type);
 
 /* A text that is written, and what is in it behind its last name: so many bytes. */
 typedef struct { char *at; size_t room; u64 rest; } text;
 void add_name(text *to, const char *before, const char *name, u64 rest);
 void add_members(Dwarf_Die type, u64 offset, u64 length, text *to);
-/* Adds what lies at an offset of the variable that is at an address, in so many bytes: ".head", "[3]", "+4". */
+/* Adds what lies at an offset of the variable that is at an address, in so many bytes: ".head",
+   "[3]", "+4". */
 void add_member(struct debug *d, u64 address, u64 offset, u64 length, char *buffer, size_t size);
-/* The same of the local of a function that is at `pc`, that lies so many bytes below the end of its return address, and above its stack
-   pointer, with its name before it; returns the name of the function that it is inlined from, or "", and null where no local is known. */
+/* The same of the local of a function that is at `pc`, that lies so many bytes below the end of its return
+   address, and above its stack pointer, with its name before it; returns the name of the function that it is
+   inlined from, or "", and null where no local is known. */
 typedef struct { u64 pc, below, above, length; } place_of_local;
 const char *add_local(struct debug *d, place_of_local at, char *buffer, size_t size);
 
 static inline int is_of_word(char c) { return isalnum((unsigned char)c) || c == '_'; }
-/* allocated.c: a line of a file; 0 if there is none that fits. What is in texts and behind `//` is blanked. */
+/* allocated.c: a line of a file; 0 if there is none that fits. What is in texts and behind `//`
+   is blanked. */
 enum { LINE_BYTES = 512 };
 int read_line(const char *path, int number, char *line);
 /* The type of so many bytes that a call in the program's own code allocates; 0 where that isn't certain. */
 int type_by_text(struct debug *d, u64 pc, u64 size, Dwarf_Die *type);
 
 /* blocks.c: what lies so far inside of a block of so many bytes that the call at `pc` allocated:
-   "bank::Account.balance", or with its element "Account[3].balance". Returns the length of the type's name, 0 if no type is certain. */
+   "bank::Account.balance", or with its element "Account[3].balance". Returns the length of the type's name, 0
+   if no type is certain. */
 typedef struct { u64 pc, size, offset, length; } place_in_block;
 /* Adds the name of a type or variable with those of what it is in: "bank::Account". 0 if it has none. */
 int add_qualified_name(const Dwarf_Die *of, text *to);
@@ -123,4 +141,5 @@ typedef struct { Dwarf_Die type; u64 begin, size; int is_element; } object_in_bl
 int object_by_use(struct debug *d, place_in_block use, int writes, object_in_block *found);
 meaning meaning_in_line(struct debug *d, u64 pc, int is_write, const char *line, int column);   /* from 1 */
 /* blocks.c: the same of what that object has so far inside of the block, with the object. */
-size_t add_by_use(struct debug *d, const object_in_block *object, u64 offset, u64 length, char *buffer, size_t size);
+size_t add_by_use(struct debug *d, const object_in_block *object, u64 offset, u64 length, char *buffer,
+                  size_t size);

@@ -1,7 +1,9 @@
-/* module-reader: tells shb-std what a module's symbols and debug information say, as libdw of the elfutils reads them.
+/* module-reader: tells shb-std what a module's symbols and debug information say, as libdw of the
+   elfutils reads them.
 
-   A module may be any file, made to take memory or time without end, or to break libdw. So this is a process of its own for each
-   module, with limits of both; it opens regular files alone, and what it answers is checked by who asks. */
+   A module may be any file, made to take memory or time without end, or to break libdw. So this is a process
+   of its own for each module, with limits of both; it opens regular files alone, and what it answers is
+   checked by who asks. */
 #define _GNU_SOURCE
 #include <errno.h>
 #include <fcntl.h>
@@ -16,7 +18,8 @@
 #include <unistd.h>
 #include "debug.h"
 
-enum { SECONDS = 120, TIMES = 16 };        /* of processor time; of memory so many times the module's size, and this: */
+/* of processor time; of memory so many times the module's size, and this: */
+enum { SECONDS = 120, TIMES = 16 };
 #define BYTES (512ul << 20)
 
 /* libdw opens by this whatever path a module has in it. A device or FIFO may have no end. */
@@ -24,7 +27,8 @@ int open(const char *path, int flags, ...) {
     struct stat status;
     va_list arguments;
     va_start(arguments, flags);
-    int f = openat(AT_FDCWD, path, flags | O_NONBLOCK | O_CLOEXEC, flags & (O_CREAT | O_TMPFILE) ? va_arg(arguments, mode_t) : 0);
+    int f = openat(AT_FDCWD, path, flags | O_NONBLOCK | O_CLOEXEC,
+                   flags & (O_CREAT | O_TMPFILE) ? va_arg(arguments, mode_t) : 0);
     va_end(arguments);
     if (f < 0 || (!fstat(f, &status) && S_ISREG(status.st_mode))) return f;
     close(f);
@@ -42,10 +46,12 @@ static void limit(int resource, u64 most, u64 end) {
     setrlimit(resource, &limits);
 }
 
-/* Memory beside what it has when it begins; beside a file with holes, which may be of any size, no more than the machine has. */
+/* Memory beside what it has when it begins; beside a file with holes, which may be of any size, no more than
+   the machine has. */
 static void limit_itself(const char *path) {
     struct stat status;
-    u64 pages = 0, page = sysconf(_SC_PAGESIZE), all = sysconf(_SC_PHYS_PAGES) * page, size = stat(path, &status) ? 0 : status.st_size;
+    u64 pages = 0, page = sysconf(_SC_PAGESIZE), all = sysconf(_SC_PHYS_PAGES) * page,
+        size = stat(path, &status) ? 0 : status.st_size;
     FILE *own = fopen("/proc/self/statm", "r");
     if (!own || fscanf(own, "%lu", &pages) != 1) pages = 0;
     if (own) fclose(own);
@@ -78,7 +84,8 @@ static void answer_frames(struct debug *d, const u64 *addresses, u64 count) {
         int found = frames_at(d, addresses[k], frames, MOST_INLINED);
         for (int n = 0; n < found; n++) {
             const debug_frame *f = &frames[n];
-            answer(k, f->path && f->line > 0 ? f->line : 0, f->function ? f->function : "", f->path ? f->path : "");
+            answer(k, f->path && f->line > 0 ? f->line : 0, f->function ? f->function : "",
+                   f->path ? f->path : "");
             free(frames[n].function);
         }
     }
@@ -109,7 +116,8 @@ static void answer_request(struct debug *d, const request *r, const u64 *numbers
     case ASK_UNREAD: if ((text = why_unread(d))) answer(0, 0, text, ""); break;
     case ASK_MEMBER: answer_members(d, numbers[0], numbers + 1, r->count - 1); break;
     case ASK_LOCAL:
-        text = add_local(d, (place_of_local){numbers[0], numbers[1], numbers[2], numbers[3]}, name, sizeof name);
+        text = add_local(d, (place_of_local){numbers[0], numbers[1], numbers[2], numbers[3]}, name,
+                         sizeof name);
         if (text) answer(0, 0, name, text);
         break;
     case ASK_BLOCK:
@@ -132,7 +140,8 @@ int main(int count, char **words) {
     if (count != 2) return 3;
     limit_itself(words[1]);
     struct debug *d = open_debug(words[1]);
-    while (fread(&r, sizeof r, 1, stdin) == 1 && r.count <= MOST_NUMBERS && fread(numbers, sizeof *numbers, r.count, stdin) == r.count) {
+    while (fread(&r, sizeof r, 1, stdin) == 1 && r.count <= MOST_NUMBERS
+           && fread(numbers, sizeof *numbers, r.count, stdin) == r.count) {
         answer_request(d, &r, numbers);
         fwrite(&end, sizeof end, 1, stdout);
         if (fflush(stdout)) break;

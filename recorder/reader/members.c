@@ -1,5 +1,5 @@
-/* Members of a program's variables, by its debug information: "queue+8" is "queue.head" (what isn't told stays a number of
-   bytes), and locals of its functions. */
+/* Members of a program's variables, by its debug information: "queue+8" is "queue.head" (what isn't told
+   stays a number of bytes), and locals of its functions. */
 #include <stdio.h>
 #include <stdlib.h>
 #include <string.h>
@@ -17,7 +17,8 @@ static u64 address_of_variable(Dwarf_Die *die) {
     if (count > 1 && operations[count - 1].atom != DW_OP_stack_value) return 0;
     if (operations->atom == DW_OP_addr) return operations->number;
     int is_numbered = operations->atom == DW_OP_addrx || operations->atom == DW_OP_GNU_addr_index;
-    return is_numbered && !dwarf_getlocation_attr(&a, operations, &number) && !dwarf_formaddr(&number, &address) ? address : 0;
+    return is_numbered && !dwarf_getlocation_attr(&a, operations, &number)
+        && !dwarf_formaddr(&number, &address) ? address : 0;
 }
 
 static int note_variable(void *to, Dwarf_Die *e) {
@@ -54,7 +55,8 @@ int follow(Dwarf_Die *die, unsigned attribute) {
 
 int plain_type(Dwarf_Die *type) {
     for (int steps = 0; steps < MOST_STEPS; steps++) {
-        int tag = dwarf_tag(type), is_only_named = tag == DW_TAG_typedef || tag == DW_TAG_const_type || tag == DW_TAG_volatile_type
+        int tag = dwarf_tag(type), is_only_named = tag == DW_TAG_typedef || tag == DW_TAG_const_type
+            || tag == DW_TAG_volatile_type
             || tag == DW_TAG_atomic_type || tag == DW_TAG_restrict_type;
         if (dwarf_hasattr(type, DW_AT_signature)) {
             if (!follow(type, DW_AT_signature)) return 0;
@@ -75,7 +77,8 @@ int type_of(Dwarf_Die *of, Dwarf_Die *type) { return named_type(of, type) && pla
 static Dwarf_Sword default_first(Dwarf_Die *of) {
     Dwarf_Die unit;
     Dwarf_Sword first = 0;
-    return dwarf_diecu(of, &unit, 0, 0) && !dwarf_default_lower_bound(dwarf_srclang(&unit), &first) ? first : 0;
+    return dwarf_diecu(of, &unit, 0, 0) && !dwarf_default_lower_bound(dwarf_srclang(&unit), &first) ? first
+        : 0;
 }
 
 /* How many elements an array has in each of its dimensions, 0 of none that is told, and the first index. */
@@ -83,14 +86,17 @@ static int read_dimensions(Dwarf_Die *array, u64 *counts, Dwarf_Sword *firsts) {
     int found = 0;
     Dwarf_Die e;
     Dwarf_Sword usual = default_first(array);
-    for (int more = !dwarf_child(array, &e); more && found < MOST_DIMENSIONS; more = !dwarf_siblingof(&e, &e)) {
+    for (int more = !dwarf_child(array, &e); more && found
+         < MOST_DIMENSIONS; more = !dwarf_siblingof(&e, &e)) {
         Dwarf_Attribute a;
         Dwarf_Word number;
         if (dwarf_tag(&e) != DW_TAG_subrange_type) break;
         counts[found] = 0;
-        if (!dwarf_attr(&e, DW_AT_lower_bound, &a) || dwarf_formsdata(&a, &firsts[found])) firsts[found] = usual;
+        if (!dwarf_attr(&e, DW_AT_lower_bound, &a) || dwarf_formsdata(&a, &firsts[found]))
+            firsts[found] = usual;
         if (dwarf_attr(&e, DW_AT_count, &a) && !dwarf_formudata(&a, &number)) counts[found] = number;
-        else if (dwarf_attr(&e, DW_AT_upper_bound, &a) && !dwarf_formudata(&a, &number)) counts[found] = number + 1 - firsts[found];
+        else if (dwarf_attr(&e, DW_AT_upper_bound, &a) && !dwarf_formudata(&a, &number))
+            counts[found] = number + 1 - firsts[found];
         found++;
     }
     return found;
@@ -106,11 +112,14 @@ u64 size_of_type(Dwarf_Die *type) {
         is_known = type_of(&e, &e);
     }
     int own = is_known ? dwarf_bytesize(&e) : -1, tag = dwarf_tag(&e);
-    if (own < 0 && (tag == DW_TAG_pointer_type || tag == DW_TAG_reference_type || tag == DW_TAG_rvalue_reference_type)) own = 8;
+    if (own < 0
+        && (tag == DW_TAG_pointer_type || tag == DW_TAG_reference_type
+            || tag == DW_TAG_rvalue_reference_type)) own = 8;
     return is_known && own > 0 ? size * own : 0;
 }
 
-/* Names of the C and C++ library's own members say little: they are told only of what isn't at the begin of a variable. */
+/* Names of the C and C++ library's own members say little: they are told only of what isn't at the begin of
+   a variable. */
 static int is_reserved(const char *name) {
     return *name == '_' && (name[1] == '_' || (name[1] >= 'A' && name[1] <= 'Z'));
 }
@@ -119,11 +128,14 @@ static int has_one_member(Dwarf_Die *of) {
     Dwarf_Die e;
     int found = 0;
     u64 place;
-    for (int more = !dwarf_child(of, &e); more; more = !dwarf_siblingof(&e, &e)) found += place_of_member(&e, &place);
+    for (int more = !dwarf_child(of, &e); more; more = !dwarf_siblingof(&e, &e))
+        found += place_of_member(&e, &place);
     return found == 1;
 }
 
-int is_structure(Dwarf_Die *type) { return dwarf_tag(type) == DW_TAG_structure_type || dwarf_tag(type) == DW_TAG_class_type; }
+int is_structure(Dwarf_Die *type) {
+    return dwarf_tag(type) == DW_TAG_structure_type || dwarf_tag(type) == DW_TAG_class_type;
+}
 
 /* A number, or in DWARF 2 what is added to where the whole begins. */
 int place_of_member(Dwarf_Die *member, u64 *place) {
@@ -132,9 +144,11 @@ int place_of_member(Dwarf_Die *member, u64 *place) {
     Dwarf_Op *operations;
     size_t count;
     int tag = dwarf_tag(member);
-    if ((tag != DW_TAG_member && tag != DW_TAG_inheritance) || !dwarf_attr(member, DW_AT_data_member_location, &a)) return 0;
+    if ((tag != DW_TAG_member && tag != DW_TAG_inheritance)
+        || !dwarf_attr(member, DW_AT_data_member_location, &a)) return 0;
     if (!dwarf_formudata(&a, &number)) *place = number;
-    else if (!dwarf_getlocation(&a, &operations, &count) && count == 1 && operations->atom == DW_OP_plus_uconst) *place = operations->number;
+    else if (!dwarf_getlocation(&a, &operations, &count) && count == 1
+             && operations->atom == DW_OP_plus_uconst) *place = operations->number;
     else return 0;
     return 1;
 }
@@ -142,7 +156,8 @@ int place_of_member(Dwarf_Die *member, u64 *place) {
 int member_with(Dwarf_Die *of, u64 offset, u64 length, Dwarf_Die *member, u64 *place) {
     for (int more = !dwarf_child(of, member); more; more = !dwarf_siblingof(member, member)) {
         Dwarf_Die type;
-        if (!place_of_member(member, place) || dwarf_hasattr(member, DW_AT_bit_size) || !type_of(member, &type)) continue;
+        if (!place_of_member(member, place) || dwarf_hasattr(member, DW_AT_bit_size)
+            || !type_of(member, &type)) continue;
         u64 size = size_of_type(&type);
         if (offset >= *place && length <= size && offset - *place <= size - length) return 1;
     }
@@ -152,10 +167,12 @@ int member_with(Dwarf_Die *of, u64 offset, u64 length, Dwarf_Die *member, u64 *p
 int place_of_bits(Dwarf_Die *member, u64 *place, u64 *length) {
     Dwarf_Attribute a;
     Dwarf_Word at, size, whole, above;
-    if (dwarf_tag(member) != DW_TAG_member || !dwarf_attr(member, DW_AT_bit_size, &a) || dwarf_formudata(&a, &size)) return 0;
+    if (dwarf_tag(member) != DW_TAG_member || !dwarf_attr(member, DW_AT_bit_size, &a)
+        || dwarf_formudata(&a, &size)) return 0;
     if (dwarf_attr(member, DW_AT_data_bit_offset, &a) && !dwarf_formudata(&a, &at)) *place = at;
     else {                             /* before DWARF 5: how many bits of its unit are above it */
-        if (!place_of_member(member, place) || !dwarf_attr(member, DW_AT_bit_offset, &a) || dwarf_formudata(&a, &above)) return 0;
+        if (!place_of_member(member, place) || !dwarf_attr(member, DW_AT_bit_offset, &a)
+            || dwarf_formudata(&a, &above)) return 0;
         if (!dwarf_attr(member, DW_AT_byte_size, &a) || dwarf_formudata(&a, &whole)) return 0;
         *place = 8 * *place + 8 * whole - above - size;
     }
@@ -177,11 +194,13 @@ void add_name(text *to, const char *before, const char *name, u64 rest) {
 static int is_by_columns(Dwarf_Die *array) {
     Dwarf_Die unit;
     int language = dwarf_diecu(array, &unit, 0, 0) ? dwarf_srclang(&unit) : 0;
-    return language == DW_LANG_Fortran77 || language == DW_LANG_Fortran90 || language == DW_LANG_Fortran95 || language == DW_LANG_Fortran03
+    return language == DW_LANG_Fortran77 || language == DW_LANG_Fortran90 || language == DW_LANG_Fortran95
+        || language == DW_LANG_Fortran03
         || language == DW_LANG_Fortran08;
 }
 
-/* Adds the indices of the element of an array that has all of these bytes, where there is one; else those of its row. */
+/* Adds the indices of the element of an array that has all of these bytes, where there is one; else those of
+   its row. */
 static int add_indices(Dwarf_Die *array, Dwarf_Die *of, u64 *offset, u64 length, text *to) {
     u64 counts[MOST_DIMENSIONS], stride = size_of_type(of), strides[MOST_DIMENSIONS];
     Dwarf_Sword firsts[MOST_DIMENSIONS];
@@ -279,7 +298,9 @@ static int plain_location(const search *s, Dwarf_Die *die, unsigned attribute, D
     Dwarf_Attribute a;
     Dwarf_Op *operations;
     size_t count;
-    if (!dwarf_attr(die, attribute, &a) || dwarf_getlocation_addr(&a, s->at.pc - s->d->bias, &operations, &count, 1) != 1 || count != 1) return 0;
+    if (!dwarf_attr(die, attribute, &a)
+        || dwarf_getlocation_addr(&a, s->at.pc - s->d->bias, &operations, &count, 1) != 1
+        || count != 1) return 0;
     *found = *operations;
     return 1;
 }
@@ -298,7 +319,8 @@ static u64 offset_in(search *s, Dwarf_Die *variable) {
 
 static void look_at(search *s, Dwarf_Die *variable, const char *inlined) {
     Dwarf_Die type;
-    u64 offset = offset_in(s, variable), size = offset != -1ull && type_of(variable, &type) ? size_of_type(&type) : 0;
+    u64 offset = offset_in(s, variable), size = offset != -1ull
+        && type_of(variable, &type) ? size_of_type(&type) : 0;
     if (offset >= size || s->at.length > size - offset) return;
     s->found++;
     s->type = type;
@@ -312,7 +334,8 @@ static void look_in(search *s, Dwarf_Die *scope, const char *inlined, int depth)
     for (int more = first_entry(scope, &e, &s->last); more; more = next_entry(&e, &s->last)) {
         int tag = dwarf_tag(&e);
         if (tag == DW_TAG_variable || tag == DW_TAG_formal_parameter) look_at(s, &e, inlined);
-        if ((tag != DW_TAG_lexical_block && tag != DW_TAG_inlined_subroutine) || depth >= MOST_STEPS || !has_code(s->d, &e, s->at.pc)) continue;
+        if ((tag != DW_TAG_lexical_block && tag != DW_TAG_inlined_subroutine) || depth >= MOST_STEPS
+            || !has_code(s->d, &e, s->at.pc)) continue;
         const char *name = tag == DW_TAG_inlined_subroutine ? dwarf_diename(&e) : inlined;
         look_in(s, &e, name ? name : "", depth + 1);
     }

@@ -19,13 +19,15 @@ char *demangled(const char *name) {
     return text;
 }
 
-/* Rust's two forms, "_R.." and "_ZN..17h" with 16 digits and "E"; "__m_MOD_x" of Fortran; "_D1m1x.." of D; gcc's "_Z1xB5cxx11". */
+/* Rust's two forms, "_R.." and "_ZN..17h" with 16 digits and "E"; "__m_MOD_x" of Fortran; "_D1m1x.." of D;
+   gcc's "_Z1xB5cxx11". */
 int is_of_other(const char *linked) {
     enum { HASH = 20 };
     size_t length = strlen(linked);
     int is_older = length > HASH && !strncmp(linked, "_ZN", 3) && !strncmp(linked + length - HASH, "17h", 3);
     int is_of_d = !strncmp(linked, "_D", 2) && isdigit((unsigned char)linked[2]);
-    return is_older || is_of_d || !strncmp(linked, "_R", 2) || strstr(linked, "_MOD_") || strstr(linked, "B5cxx11");
+    return is_older || is_of_d || !strncmp(linked, "_R", 2) || strstr(linked, "_MOD_")
+        || strstr(linked, "B5cxx11");
 }
 
 /* As gcc links "last" of a function in C: "last.0". */
@@ -47,12 +49,14 @@ static void take_symbol(struct debug *d, int number) {
     GElf_Word section;
     const char *name = dwfl_module_getsym_info(d->file, number, &s, &at, &section, 0, 0);
     int type = GELF_ST_TYPE(s.st_info), is_function = type == STT_FUNC || type == STT_GNU_IFUNC;
-    if (!name || !*name || !s.st_size || s.st_size > ~0ull >> SYMBOL_FLAGS || section == SHN_UNDEF || section == SHN_ABS || section == SHN_COMMON) return;
+    if (!name || !*name || !s.st_size || s.st_size > ~0ull >> SYMBOL_FLAGS || section == SHN_UNDEF
+        || section == SHN_ABS || section == SHN_COMMON) return;
     if (!is_function && type != STT_OBJECT && type != STT_NOTYPE) return;
     *PUSH(d->symbols) = (symbol){s.st_value, s.st_size, name, 0, 0, is_function};
 }
 
-static int by_address(const void *a, const void *b) {        /* of several at one address, the last by its name is found */
+/* of several at one address, the last by its name is found */
+static int by_address(const void *a, const void *b) {
     const symbol *x = a, *y = b;
     return x->at < y->at ? -1 : x->at > y->at ? 1 : strcmp(x->linked, y->linked);
 }
@@ -62,7 +66,8 @@ static void read_symbols(struct debug *d) {
     int count = d->file ? dwfl_module_getsymtab(d->file) : 0;
     for (int k = 1; k < count; k++) take_symbol(d, k);
     if (d->symbols.count) qsort(d->symbols.at, d->symbols.count, sizeof *d->symbols.at, by_address);
-    for (u64 k = 1; k < d->symbols.count; k++) {             /* at what is of two the second is found, so the first ends there */
+    /* at what is of two the second is found, so the first ends there */
+    for (u64 k = 1; k < d->symbols.count; k++) {
         symbol *before = &d->symbols.at[k - 1];
         u64 most = before[1].at - before->at;
         if (most && before->size > most) before->size = most;

@@ -1,13 +1,14 @@
-/* The type of an object in a block by its uses: the source text at an access's column, as `j->done`, is a member of
-   what a pointer points to, whose type the debug information tells. So an object of that type lies there, if it has
-   the member's bytes at the access. What isn't certain by text and types has no meaning. */
+/* The type of an object in a block by its uses: the source text at an access's column, as `j->done`, is a
+   member of what a pointer points to, whose type the debug information tells. So an object of that type lies
+   there, if it has the member's bytes at the access. What isn't certain by text and types has no meaning. */
 #include <stdio.h>
 #include <stdlib.h>
 #include <string.h>
 #include "debug.h"
 
 enum { WORD = 128, MOST_ENTRIES = 1 << 16 };
-typedef struct { struct debug *d; Dwarf_Die unit, function; int entries; } view;       /* what the code sees */
+/* what the code sees */
+typedef struct { struct debug *d; Dwarf_Die unit, function; int entries; } view;
 
 static int has_name(Dwarf_Die *e, const char *name) {
     const char *own = dwarf_diename(e);
@@ -18,12 +19,14 @@ static int has_name(Dwarf_Die *e, const char *name) {
 static int tag_of_type(Dwarf_Die type) { return plain_type(&type) ? dwarf_tag(&type) : 0; }
 static int target_of(Dwarf_Die type, Dwarf_Die *to) { return plain_type(&type) && named_type(&type, to); }
 
-/* By its name, also of a base or of what has no name; adds to where it lies. -1 if it has no place, as a static. */
+/* By its name, also of a base or of what has no name; adds to where it lies. -1 if it has no place, as
+   a static. */
 static int find_member(view *v, Dwarf_Die type, const char *name, Dwarf_Die *found, u64 *offset, int depth) {
     Dwarf_Die e, of;
     if (depth > MOST_DIMENSIONS || !plain_type(&type)) return 0;
     int is_union = dwarf_tag(&type) == DW_TAG_union_type;
-    for (int more = !dwarf_child(&type, &e); more && v->entries++ < MOST_ENTRIES; more = !dwarf_siblingof(&e, &e)) {
+    for (int more = !dwarf_child(&type, &e); more
+         && v->entries++ < MOST_ENTRIES; more = !dwarf_siblingof(&e, &e)) {
         u64 place = 0, bits, inside;
         int tag = dwarf_tag(&e), is_part = tag == DW_TAG_member || tag == DW_TAG_inheritance, is_found;
         int is_placed = is_part && (place_of_member(&e, &place) || place_of_bits(&e, &bits, &bits)
@@ -251,7 +254,8 @@ static int begins_statement(const char *line, const char *begin) {
     return 0;
 }
 
-/* A write is of what stands before the sign; a read may have the sign's column if all after it is what is read. */
+/* A write is of what stands before the sign; a read may have the sign's column if all after it is what
+   is read. */
 static int means_assigned(view *v, const char *line, const char *at, int is_write, meaning *m) {
     if (*at == '=' && !is_write) {
         const char *end = names_from(at + 1).end;
@@ -294,8 +298,8 @@ static int means_word(view *v, const char *line, const char *at, meaning *m) {
     return all.indices == 1 && !may_be_name && means(v, at, all.index_end, m, 0);
 }
 
-/* What the access at a column means. Compilers have for a read the column of the last `->`, `.` or `[`, of the name
-   after it, or of its end or begin; for a write that of the assignment; for a call its own. */
+/* What the access at a column means. Compilers have for a read the column of the last `->`, `.` or `[`, of
+   the name after it, or of its end or begin; for a write that of the assignment; for a call its own. */
 static int means_at(view *v, const char *line, const char *at, int is_write, meaning *m) {
     char word[WORD];
     const char *behind = at;
@@ -328,7 +332,8 @@ meaning meaning_in_line(struct debug *d, u64 pc, int is_write, const char *line,
     Dwarf_Die scopes[MOST_STEPS];
     view v = {.d = d};
     meaning m = none;
-    if (!find_unit(d, pc, &v.unit) || !find_function(d, pc, &v.function) || (size_t)column > strlen(line)) return none;
+    if (!find_unit(d, pc, &v.unit) || !find_function(d, pc, &v.function) || (size_t)column > strlen(line))
+        return none;
     v.function = scopes[scopes_at(v.function, pc - d->bias, scopes, MOST_STEPS) - 1];
     return means_at(&v, line, line + column - 1, is_write, &m) && m.has_member && m.has_object ? m : none;
 }
@@ -337,7 +342,8 @@ static meaning find_meaning(struct debug *d, u64 pc, int is_write) {
     char line[LINE_BYTES];
     const char *path;
     int number, column, is_told = line_at(d, pc, &path, &number, &column) && column > 0;
-    if (!is_told || strstr(path, "/include/c++/") || !read_line(path, number, line)) return (meaning){.has_object = 0};
+    if (!is_told || strstr(path, "/include/c++/") || !read_line(path, number, line))
+        return (meaning){.has_object = 0};
     return meaning_in_line(d, pc, is_write, line, column);
 }
 

@@ -1,19 +1,24 @@
-/* What `gcc -fsanitize=thread` calls: a hook before each access of memory, and the atomic operations themselves. */
+/* What `gcc -fsanitize=thread` calls: a hook before each access of memory, and the atomic
+   operations themselves. */
 #include "hold.h"
 
 /* ---- accesses ---- */
 static uint64_t size_in_last(uint64_t size) {
     return size <= 16 && !(size & (size - 1)) ? (uint64_t)__builtin_ctzl(size) : IS_RANGE | size % IS_RANGE;
 }
-static uint64_t write_at(uint64_t size, uint64_t caller) { return caller | (uint64_t)OP_WRITE << 48 | size_in_last(size) << 54; }
+static uint64_t write_at(uint64_t size, uint64_t caller) {
+    return caller | (uint64_t)OP_WRITE << 48 | size_in_last(size) << 54;
+}
 static int is_write_of(uint64_t last, uint64_t size) {
     uint64_t inside = last >> 54;      /* of a quick hook with a depth */
-    return is_write(last) && (inside & IS_RANGE ? inside : inside % (1 << LOGARITHM_BITS)) == size_in_last(size);
+    return is_write(last)
+        && (inside & IS_RANGE ? inside : inside % (1 << LOGARITHM_BITS)) == size_in_last(size);
 }
 
-/* gcc puts two hooks before one copy of a structure (of the write, then of the read), and between them the turn must not
-   be given up.  They are of one size, and the second stands soon after the first in the code: up to 86 bytes were seen,
-   with indices in two dimensions and large addresses.  A read that follows in a loop stands before the write. */
+/* gcc puts two hooks before one copy of a structure (of the write, then of the read), and between them the
+   turn must not be given up.  They are of one size, and the second stands soon after the first in the code:
+   up to 86 bytes were seen, with indices in two dimensions and large addresses.  A read that follows in a
+   loop stands before the write. */
 enum { COPY_BYTES = 128 };
 
 static int ends_copy(const thread *t, uint64_t size, uint64_t caller) {
@@ -28,7 +33,8 @@ int hold_range(enum operation operation, uint64_t address, uint64_t size, uint64
     KEEP_ORDER();
     uint64_t where_from = caller & LOW_48_BITS;              /* a program may name any */
     uint64_t what = what_of_use(where_from | (uint64_t)operation << 48 | size_in_last(size) << 54, address);
-    int count = is_usual(t, end - 1) ? words_of_range(t->serial, (cell_use){what, t->kind}, address, end, words) : 0;
+    int count = is_usual(t, end - 1) ? words_of_range(t->serial, (cell_use){what, t->kind}, address, end,
+                                                      words) : 0;
     int is_held = count && hold_quickly(t, words[0], operation, what, IS_PLAIN);
     for (int k = 1; is_held && k < count; k++) *words[k] = *words[0];
     end_quick_hook(t);
@@ -36,7 +42,8 @@ int hold_range(enum operation operation, uint64_t address, uint64_t size, uint64
     return is_held;
 }
 
-__attribute__((noinline)) void note_access(enum operation operation, uint64_t address, uint64_t size, uint64_t caller) {
+__attribute__((noinline)) void note_access(enum operation operation, uint64_t address, uint64_t size,
+                                           uint64_t caller) {
     thread *t = self;
     int is_read = operation == OP_READ, is_in_copy = is_read && t && ends_copy(t, size, caller);
     if (address % GRAIN + size > GRAIN && hold_range(operation, address, size, caller)) return;
@@ -54,29 +61,44 @@ void hold_elsewhere(thread *t, cell *c, uint64_t what, uint64_t address) {
     int is_held = word && hold_quickly(t, word, operation_of_use(what), what, IS_PLAIN);
     end_quick_hook(t);
     if (t->deferred) deliver_deferred(t);
-    if (!is_held) note_access(operation_of_use(what), address, 1 << (what >> 54) % (1 << LOGARITHM_BITS), what & LOW_48_BITS);
+    if (!is_held)
+        note_access(operation_of_use(what), address, 1 << (what >> 54) % (1 << LOGARITHM_BITS),
+                    what & LOW_48_BITS);
 }
 
 #define ACCESSES(kind, n) \
     PUBLIC void __tsan_##kind##read##n(void *p) { hook(OP_READ, (uint64_t)p, n, CALLER); } \
     PUBLIC void __tsan_##kind##write##n(void *p) { hook(OP_WRITE, (uint64_t)p, n, CALLER); }
 #define ACCESSES_AT(n) \
-    PUBLIC void __tsan_read##n##_pc(void *p, void *at) { note_access(OP_READ, (uint64_t)p, n, (uint64_t)at); } \
-    PUBLIC void __tsan_write##n##_pc(void *p, void *at) { note_access(OP_WRITE, (uint64_t)p, n, (uint64_t)at); }
+    PUBLIC void __tsan_read##n##_pc(void *p, void *at) { \
+        note_access(OP_READ, (uint64_t)p, n, (uint64_t)at); } \
+    PUBLIC void __tsan_write##n##_pc(void *p, void *at) { \
+        note_access(OP_WRITE, (uint64_t)p, n, (uint64_t)at); }
 #define ACCESSES_OF(n) \
-    ACCESSES(, n) ACCESSES(volatile_, n) ACCESSES(unaligned_, n) ACCESSES(unaligned_volatile_, n) ACCESSES_AT(n)
+    ACCESSES(, n) ACCESSES(volatile_, n) ACCESSES(unaligned_, n) ACCESSES(unaligned_volatile_, n) \
+        ACCESSES_AT(n)
 ACCESSES_OF(1)
 ACCESSES_OF(2)
 ACCESSES_OF(4)
 ACCESSES_OF(8)
 ACCESSES_OF(16)
 
-PUBLIC void __tsan_read_range(void *p, unsigned long size) { note_access(OP_READ, (uint64_t)p, size, CALLER); }
-PUBLIC void __tsan_write_range(void *p, unsigned long size) { note_access(OP_WRITE, (uint64_t)p, size, CALLER); }
-PUBLIC void __tsan_read_range_pc(void *p, unsigned long size, void *at) { note_access(OP_READ, (uint64_t)p, size, (uint64_t)at); }
-PUBLIC void __tsan_write_range_pc(void *p, unsigned long size, void *at) { note_access(OP_WRITE, (uint64_t)p, size, (uint64_t)at); }
+PUBLIC void __tsan_read_range(void *p, unsigned long size) {
+    note_access(OP_READ, (uint64_t)p, size, CALLER);
+}
+PUBLIC void __tsan_write_range(void *p, unsigned long size) {
+    note_access(OP_WRITE, (uint64_t)p, size, CALLER);
+}
+PUBLIC void __tsan_read_range_pc(void *p, unsigned long size, void *at) {
+    note_access(OP_READ, (uint64_t)p, size, (uint64_t)at);
+}
+PUBLIC void __tsan_write_range_pc(void *p, unsigned long size, void *at) {
+    note_access(OP_WRITE, (uint64_t)p, size, (uint64_t)at);
+}
 PUBLIC void __tsan_vptr_read(void **p) { hook(OP_READ, (uint64_t)p, 8, CALLER); }
-PUBLIC void __tsan_vptr_update(void **p, void *value) { if (*p != value) hook(OP_WRITE, (uint64_t)p, 8, CALLER); }
+PUBLIC void __tsan_vptr_update(void **p, void *value) {
+    if (*p != value) hook(OP_WRITE, (uint64_t)p, 8, CALLER);
+}
 
 /* A program may have these do an access that isn't aligned. */
 #define UNALIGNED(bits) \
@@ -93,23 +115,33 @@ UNALIGNED(16)
 UNALIGNED(32)
 UNALIGNED(64)
 
-/* A library that isn't instrumented tells how its object is used: an access of the first byte, by the one who called it. */
+/* A library that isn't instrumented tells how its object is used: an access of the first byte, by the one who
+   called it. */
 static uint64_t user_of(void *user, uint64_t caller) { return user ? (uint64_t)user : caller; }
-PUBLIC void __tsan_external_read(void *p, void *user, void *tag) { note_access(OP_READ, (uint64_t)p, 1, user_of(user, CALLER)); }
-PUBLIC void __tsan_external_write(void *p, void *user, void *tag) { note_access(OP_WRITE, (uint64_t)p, 1, user_of(user, CALLER)); }
+PUBLIC void __tsan_external_read(void *p, void *user, void *tag) {
+    note_access(OP_READ, (uint64_t)p, 1, user_of(user, CALLER));
+}
+PUBLIC void __tsan_external_write(void *p, void *user, void *tag) {
+    note_access(OP_WRITE, (uint64_t)p, 1, user_of(user, CALLER));
+}
 
-/* ---- atomic operations: done here under the turn, and in the strongest order; the record has the one asked for ---- */
+/* ---- atomic operations: done here under the turn, and in the strongest order; the record has the one asked
+   for ---- */
 #define ATOMIC __attribute__((section("atomics")))           /* a fault there is the program's (signals.c) */
 static uint64_t size_and_order(int size, int order) { return size | (order & 7) << ATOMIC_SIZE_BITS; }
 
-static thread *before_atomic(enum operation operation, const volatile void *p, uint64_t size_and_order, uint64_t caller) {
+static thread *before_atomic(enum operation operation, const volatile void *p, uint64_t size_and_order,
+                             uint64_t caller) {
     thread *t = enter(MAY_YIELD);
     if (t && others) put(t, operation, p, size_and_order, caller);
     return t;
 }
 
-/* What the hook has last, by whether it changed the value: a loop that leaves it as it is may wait for another thread. */
-static uint64_t last_of(int is_changed, const volatile void *p, uint64_t caller) { return is_changed ? 0 : read_at((uint64_t)p, caller); }
+/* What the hook has last, by whether it changed the value: a loop that leaves it as it is may wait for
+   another thread. */
+static uint64_t last_of(int is_changed, const volatile void *p, uint64_t caller) {
+    return is_changed ? 0 : read_at((uint64_t)p, caller);
+}
 
 static void after_atomic(thread *t, uint64_t last) {
     if (!t) return;
@@ -119,7 +151,8 @@ static void after_atomic(thread *t, uint64_t last) {
 }
 
 /* Whether a compare-and-exchange is an update or a load is known after it. */
-static void after_exchange(thread *t, int done, const volatile void *p, uint64_t size_and_order, uint64_t caller) {
+static void after_exchange(thread *t, int done, const volatile void *p, uint64_t size_and_order,
+                           uint64_t caller) {
     if (t && others) put(t, done ? OP_ATOMIC_UPDATE : OP_ATOMIC_LOAD, p, size_and_order, caller);
     after_atomic(t, last_of(done, p, caller));
 }
@@ -148,7 +181,8 @@ ATOMIC static void store_16(volatile uint128_t *p, uint128_t value) {
 /* The operations as the macros below name them: of up to 8 bytes the compiler's own. */
 #define LOAD(p) __atomic_load_n(p, __ATOMIC_SEQ_CST)
 #define STORE(p, value) __atomic_store_n(p, value, __ATOMIC_SEQ_CST)
-#define EXCHANGE(p, expected, value) __atomic_compare_exchange_n(p, expected, value, 0, __ATOMIC_SEQ_CST, __ATOMIC_SEQ_CST)
+#define EXCHANGE(p, expected, value) \
+    __atomic_compare_exchange_n(p, expected, value, 0, __ATOMIC_SEQ_CST, __ATOMIC_SEQ_CST)
 
 #define ATOMICALLY(operation, bits, perform, last) \
     if (begin_quick_atomic(operation, (uint64_t)p, bits / 8, size_and_order(bits / 8, order), caller)) { \
@@ -169,20 +203,23 @@ int load_acquire(const int *p, uint64_t caller) {
 
 /* `old` is the parameter that has the expected value, at this address. */
 #define COMPARE_EXCHANGE(bits, type, name, exchange, result, r, old, address) \
-    ATOMIC PUBLIC result __tsan_atomic##bits##_compare_exchange_##name(volatile type *p, type old, type value, int order, int fail_order) { \
+    ATOMIC PUBLIC result __tsan_atomic##bits##_compare_exchange_##name(volatile type *p, type old, \
+        type value, int order, int fail_order) { \
         thread *t = enter(MAY_YIELD); \
         int done = exchange(p, address, value); \
         after_exchange(t, done, p, size_and_order(bits / 8, done ? order : fail_order), CALLER); \
         return r; \
     }
 
-/* Whether it changes the value is known by what it takes: once it is done the object may be gone, where no turn keeps other threads away. */
+/* Whether it changes the value is known by what it takes: once it is done the object may be gone, where no
+   turn keeps other threads away. */
 #define UPDATE(bits, type, name, load, exchange, new_value) \
     ATOMIC PUBLIC type __tsan_atomic##bits##_##name(volatile type *p, type value, int order) { \
         uint64_t caller = CALLER; \
         type old, new; \
         ATOMICALLY(OP_ATOMIC_UPDATE, bits, \
-                   old = load(p); do new = new_value; while (!exchange(p, &old, new)), last_of(new != old, p, caller)) \
+                   old = load(p); do new = new_value; \
+                       while (!exchange(p, &old, new)), last_of(new != old, p, caller)) \
         return old; \
     }
 #define ATOMICS(bits, type, load, store, compare) \

@@ -1,5 +1,6 @@
-/* What a program tells ThreadSanitizer of itself, by the names of its library: so each program that was built for it runs.
-   What orders threads is recorded; what asks for silence (benign races, accesses to be ignored) is not followed (forward.S). */
+/* What a program tells ThreadSanitizer of itself, by the names of its library: so each program that was built
+   for it runs. What orders threads is recorded; what asks for silence (benign races, accesses to be ignored)
+   is not followed (forward.S). */
 #include "runtime.h"
 #include <ucontext.h>
 
@@ -47,12 +48,13 @@ PUBLIC int __tsan_java_mutex_unlock_rec(void *, unsigned) __attribute__((alias("
 enum { NO_ORDER = 1 };
 void *__libc_malloc(size_t);
 void __libc_free(void *);
-typedef struct { frame *frames; uint32_t depth; } fiber;     /* the functions that it is in while no thread runs it */
+/* the functions that it is in while no thread runs it */
+typedef struct { frame *frames; uint32_t depth; } fiber;
 static __thread fiber *running, first_fiber;
 PUBLIC void *__tsan_get_current_fiber(void) { return running ? running : &first_fiber; }
 
-/* Further out than its own functions are those in which this thread makes it, so many at most, and the call that makes it. None of
-   them is left while it runs. */
+/* Further out than its own functions are those in which this thread makes it, so many at most, and the call
+   that makes it. None of them is left while it runs. */
 enum { MOST_OUTER = 16 };
 static void note_where_made(fiber *new, uint64_t caller, uint64_t function) {
     thread *t = self;
@@ -96,8 +98,9 @@ PUBLIC void __tsan_switch_to_fiber(void *next, unsigned flags) {
     running = next;
 }
 
-/* Another context is in functions of its own. They aren't known but where the program told its fiber right before. The real
-   function is jumped to: a context may be taken up again when the call that saved it is over. */
+/* Another context is in functions of its own. They aren't known but where the program told its fiber right
+   before. The real function is jumped to: a context may be taken up again when the call that saved it is
+   over. */
 #define SWITCHES_CONTEXT(name, words, ...) \
     PUBLIC __attribute__((optimize("optimize-sibling-calls"))) int name words { \
         if (self && !running) set_depth(self, 0); \
@@ -109,4 +112,6 @@ SWITCHES_CONTEXT(setcontext, (const ucontext_t *to), to)
 /* By the first the OpenMP run-time's archer sees that somebody listens; it then tells the order as above. */
 PUBLIC int RunningOnValgrind(void) { return 0; }
 PUBLIC double ValgrindSlowdown(void) { return 10; }
-PUBLIC const char *ThreadSanitizerQuery(const char *what) { return strcmp(what, "pure_happens_before") ? "0" : "1"; }
+PUBLIC const char *ThreadSanitizerQuery(const char *what) {
+    return strcmp(what, "pure_happens_before") ? "0" : "1";
+}

@@ -1,15 +1,17 @@
-/* The functions that each thread is in, for the call stacks of its accesses.  The compiler has each function call a hook as it
-   begins and as it ends (also where an exception leaves it).  A *context* is a function with those further out: a node of a tree
-   that all threads share, found again by its call.  So a hook moves a pointer and writes nothing: the record gets a context, with
-   a number, before its first access, and later the number. */
+/* The functions that each thread is in, for the call stacks of its accesses.  The compiler has each function
+   call a hook as it begins and as it ends (also where an exception leaves it).  A *context* is a function
+   with those further out: a node of a tree that all threads share, found again by its call.  So a hook moves
+   a pointer and writes nothing: the record gets a context, with a number, before its first access, and later
+   the number. */
 #include "hold.h"
 #include <setjmp.h>
 
 int records_calls = 1;
 
-/* Where the innermost of so many functions called code without hooks, in which this caller lies: the call left its return
-   address at that function's stack pointer. 0 where the caller has hooks, or that isn't known. (What lay on the stack by
-   another call, or after an alloca, may be no such address; the converter looks whether it is in that function.) */
+/* Where the innermost of so many functions called code without hooks, in which this caller lies: the call
+   left its return address at that function's stack pointer. 0 where the caller has hooks, or that isn't
+   known. (What lay on the stack by another call, or after an alloca, may be no such address; the converter
+   looks whether it is in that function.) */
 uint64_t way_to(const thread *t, uint32_t depth, uint64_t caller) {
     if (!depth || depth > MOST_FRAMES || instrumented(caller)) return 0;
     uint64_t stack = t->frames[depth - 1].stack, here = (uint64_t)__builtin_dwarf_cfa();
@@ -19,7 +21,8 @@ uint64_t way_to(const thread *t, uint32_t depth, uint64_t caller) {
 }
 
 /* ---- the tree ---- */
-enum { MOST_KEPT = KINDS, MOST_CONTEXTS = MOST_KEPT / 8 * 7, BUCKETS = 1 << 17, MOST_EXTENTS = 8 };       /* the rest is for kinds */
+/* the rest is for kinds */
+enum { MOST_KEPT = KINDS, MOST_CONTEXTS = MOST_KEPT / 8 * 7, BUCKETS = 1 << 17, MOST_EXTENTS = 8 };
 #define MOVES (~0ull)                  /* an extent that isn't known, whatever it is */
 #define NO_EXTENT (~0ull - 1)          /* that of a kind */
 static context kept[MOST_KEPT];        /* the first is that of no function, and stands for none */
@@ -67,15 +70,17 @@ static uint32_t add_context(const context *new) {
 }
 
 /* ---- kinds of contexts ---- */
-/* The location of an access is its own, or that of the innermost call which is in the program's own code. So where two contexts have the same
-   calls, each where it comes first from within, all locations are the same: they are of one *kind*, however deep a recursion is. A kind is
-   in the tree too, as a list: its first call, with the function that this is in, and the rest as what is further out. In C it has no more than
-   the innermost calls, for there functions of the system's headers are short and seldom stand in each other. */
+/* The location of an access is its own, or that of the innermost call which is in the program's own code. So
+   where two contexts have the same calls, each where it comes first from within, all locations are the same:
+   they are of one *kind*, however deep a recursion is. A kind is in the tree too, as a list: its first call,
+   with the function that this is in, and the rest as what is further out. In C it has no more than the
+   innermost calls, for there functions of the system's headers are short and seldom stand in each other. */
 enum { CALLS_IN_C = 3 };
 
 /* Null where there is no room. */
 static context *kind_with(context *rest, const context *call) {
-    context kind = {.outer = rest, .caller = call->caller, .function = call->function, .way = call->way, .extent = NO_EXTENT};
+    context kind = {.outer = rest, .caller = call->caller, .function = call->function, .way = call->way,
+                    .extent = NO_EXTENT};
     uint32_t k = rest ? find_context(&kind) : 0;
     if (rest && !k) k = add_context(&kind);
     return k ? &kept[k] : 0;
@@ -102,10 +107,11 @@ static uint64_t kind_of(const context *c) {
     return kind ? (uint64_t)(kind - kept) << KIND_AT : NO_KIND;
 }
 
-/* The function in the frame is called as `new` says, in those of `outer`. Where there is no room for a context the frame has its own, a
-   new one at each call. */
+/* The function in the frame is called as `new` says, in those of `outer`. Where there is no room for a
+   context the frame has its own, a new one at each call. */
 void enter_context(frame *f, context *outer, context new) {
-    f->own = (context){outer, new.caller, new.function, new.way, new.extent, NO_KIND, NOT_RECORDED, outer->depth + 1, 0, 0, 0};
+    f->own = (context){outer, new.caller, new.function, new.way, new.extent, NO_KIND, NOT_RECORDED,
+                       outer->depth + 1, 0, 0, 0};
     uint32_t k = is_kept_context(outer) ? find_context(&f->own) : 0;
     if (!k) f->own.kind = kind_of(&f->own);
     if (!k && is_kept_context(outer)) k = add_context(&f->own);
@@ -127,13 +133,15 @@ void forget_told(thread *t) {
 void unlock_contexts(void) { munlock(kept, sizeof kept); }
 
 /* ---- where functions lie on the stack ---- */
-/* By the return address, which stands once near the stack pointer of the function further out. In the same page: what is
-   below may be no memory, where the two functions have stacks of their own. 0 where it isn't known. */
+/* By the return address, which stands once near the stack pointer of the function further out. In the same
+   page: what is below may be no memory, where the two functions have stacks of their own. 0 where it isn't
+   known. */
 uint64_t place_of_frame(const thread *t, uint32_t depth) {
     enum { NEAR = 512, NEAR_END = 1 << 14, PAGE = 4096 };
     const frame *f = &t->frames[depth];
     uint64_t outer = f->stack + f->in->extent, top = (uint64_t)t->stack + t->stack_size, found = 0;
-    if (f->in->extent >> PLACE_BITS || f->stack < (uint64_t)t->stack || f->stack >= outer || outer > top) return 0;
+    if (f->in->extent >> PLACE_BITS || f->stack < (uint64_t)t->stack || f->stack >= outer || outer > top)
+        return 0;
     uint64_t low = depth ? outer - NEAR : outer - NEAR_END, page = (outer - 1) & ~(PAGE - 1ull);
     if (depth && low < page) low = page;
     if (low < f->stack) low = f->stack;
@@ -146,17 +154,19 @@ uint64_t place_of_frame(const thread *t, uint32_t depth) {
 }
 
 /* ---- entering and leaving functions ---- */
-static __attribute__((noinline)) void enter_elsewhere(thread *t, uint32_t depth, uint64_t caller, uint64_t function, uint64_t extent) {
+static __attribute__((noinline)) void enter_elsewhere(thread *t, uint32_t depth, uint64_t caller,
+                                                      uint64_t function, uint64_t extent) {
     context new = {.caller = caller, .function = function, .way = way_to(t, depth, caller), .extent = extent};
     enter_context(&t->frames[depth], context_at(t, depth), new);
 }
 
 static int is_entered(const context *c, uint64_t caller, uint64_t function, uint64_t extent) {
-    return c->caller == caller && c->function == function && !c->way && (c->extent == extent || c->extent == MOVES);
+    return c->caller == caller && c->function == function && !c->way
+        && (c->extent == extent || c->extent == MOVES);
 }
 
-/* A function whose stack pointer isn't further out than this one's was left without its hook: an exception came through code
-   that was compiled without them, or a child made by vfork was in it. */
+/* A function whose stack pointer isn't further out than this one's was left without its hook: an exception
+   came through code that was compiled without them, or a child made by vfork was in it. */
 PUBLIC void __tsan_func_entry(void *caller) {
     thread *t = self;
     if (!t) return note_stranger();
@@ -187,8 +197,8 @@ PUBLIC void __tsan_func_exit(void) {
     if (t->depth) set_depth(t, t->depth - 1);
 }
 
-/* A handler of a signal, which may come in the middle of a hook: the frame that the hook may be about to fill is kept. The
-   handler may have a stack of its own. */
+/* A handler of a signal, which may come in the middle of a hook: the frame that the hook may be about to fill
+   is kept. The handler may have a stack of its own. */
 interrupted push_frame(thread *t, uint64_t caller, uint64_t function) {
     frame *f = &t->frames[t->depth];
     interrupted before = {t->depth < MOST_FRAMES ? *f : (frame){0}, t->depth};
@@ -224,7 +234,8 @@ static void leave_functions(jmp_buf buffer) {
     while (depth && (depth > MOST_FRAMES || t->frames[depth - 1].stack < to
                      || t->frames[depth - 1].stack - (uint64_t)t->stack >= t->stack_size)) depth--;
     set_depth(t, depth);
-    if (t->inside) t->limit ? end_quick_atomic(0) : leave(t);           /* an atomic operation that faulted is made in its hook */
+    /* an atomic operation that faulted is made in its hook */
+    if (t->inside) t->limit ? end_quick_atomic(0) : leave(t);
 }
 
 #define LEAVES_FUNCTIONS(name) \

@@ -1,32 +1,38 @@
 /* Cells: what is known of each 8 bytes of memory, so that accesses which bring no race needn't be recorded.
 
-   A cell has the thread that alone used its bytes lately, the *owner*, and its latest uses of some kinds. An access that
-   repeats a use of the owner is *held back*: its position is kept, and that of the one before is forgotten. When another
-   thread comes, or another kind needs the room, the last of each use goes to the record with its position (OP_LATE), and
-   the converter puts it there. For example, of x = 0; while (n--) x++; by a thread, and then x = 1 by another, the record
-   gets four accesses: x = 0, the last read and the last write of x++, and x = 1.
+   A cell has the thread that alone used its bytes lately, the *owner*, and its latest uses of some kinds. An
+   access that repeats a use of the owner is *held back*: its position is kept, and that of the one before is
+   forgotten. When another thread comes, or another kind needs the room, the last of each use goes to the
+   record with its position (OP_LATE), and the converter puts it there. For example, of x = 0; while (n--)
+   x++; by a thread, and then x = 1 by another, the record gets four accesses: x = 0, the last read and the
+   last write of x++, and x = 1.
 
-   While nobody writes, other threads that read the cell don't end the phase: then its owner is READERS, and each use is
-   one of a certain thread's. A write, also an atomic one, an access of several cells or a free ends that phase.
+   While nobody writes, other threads that read the cell don't end the phase: then its owner is READERS, and
+   each use is one of a certain thread's. A write, also an atomic one, an access of several cells or a free
+   ends that phase.
 
-   An atomic access is held back likewise: it is of another kind with another order, and a load is a read. In a phase one
-   thread alone reads and writes the value, or nobody writes it. So nobody takes what the ones between the first and the
-   last gave, and by C11
+   An atomic access is held back likewise: it is of another kind with another order, and a load is a read. In
+   a phase one thread alone reads and writes the value, or nobody writes it. So nobody takes what the ones
+   between the first and the last gave, and by C11
      - the last one of a kind gives all that those before it gave, for what a thread gives never gets less;
-     - a relaxed store ends what other threads gave, and the first of its kind in the phase is recorded at once;
+     - a relaxed store ends what other threads gave, and the first of its kind in the phase is recorded at
+       once;
      - what a thread takes is that of others before the phase, which the first of each kind took, or its own;
-     - the last ones stand in the order in which they were made, so the last store is the one that another thread reads.
+     - the last ones stand in the order in which they were made, so the last store is the one that another
+       thread reads.
 
    What is lost? Nothing that a race or its place needs:
-     - of accesses that are the same (thread, kind, place with the calls that tell its location, bytes) and have no
+     - of accesses that are the same (thread, kind, place with the calls that tell its location, bytes) and
+       have no
        conflicting one of another thread between them, the first and the last stand for all;
-     - in the first phase of a variable, when no other thread had used it yet, the last alone does: each race of an
+     - in the first phase of a variable, when no other thread had used it yet, the last alone does: each race
+       of an
        earlier one with what comes after has the same place as one of the last;
      - a variable that one thread alone uses has no race.
    Accesses of several threads in one phase are reads, so what conflicts stands between two phases.
 
-   More is recorded than needed where a cell has no free key, where an access covers several cells and isn't in the first
-   phase of each, and where memory for cells ends. */
+   More is recorded than needed where a cell has no free key, where an access covers several cells and isn't
+   in the first phase of each, and where memory for cells ends. */
 #define _GNU_SOURCE
 #include <string.h>
 #include <sys/mman.h>
@@ -37,7 +43,8 @@
 #define USED_BY_ALL (~0u)              /* an owner that no thread is */
 #define MAX_BLOCK (1ull << 32)         /* a longer one is no new variables, as the converter has it */
 enum { OVERFLOWS = 8 };                /* after so many an older use makes room */
-enum { MOST_USES = USE_SLOTS / 4 * 3, MOST_OF_READERS = MOST_USES / 2 };     /* each thread brings new ones of readers */
+/* each thread brings new ones of readers */
+enum { MOST_USES = USE_SLOTS / 4 * 3, MOST_OF_READERS = MOST_USES / 2 };
 enum { CHUNK_BYTES = 4 << 20, CHUNKS = 1 << 14 };            /* memory is asked for in chunks */
 enum { REGION_BYTES = sizeof(cell_region), PAGE_BYTES = CELLS_OF_PAGE * sizeof(cell) };
 enum { REGIONS_BYTES = REGIONS * sizeof(cell_region *), USES_BYTES = USE_SLOTS * sizeof(cell_use) };
@@ -45,15 +52,19 @@ enum { REGIONS_BYTES = REGIONS * sizeof(cell_region *), USES_BYTES = USE_SLOTS *
 int has_cells;
 cell_region **cell_regions;
 cell_use *cell_uses;
-static uint64_t use_count, readers_count, memory_left, memory_of_keys;         /* how many uses there are, and how many of readers */
+/* how many uses there are, and how many of readers */
+static uint64_t use_count, readers_count, memory_left, memory_of_keys;
 static char *chunks[CHUNKS];
 static uint64_t chunk_count;
-static struct pool { char *chunk; uint64_t left; } cell_pool, key_pool;        /* a chunk, and how much of it is left */
-static key_line *free_tables[MOST_LOG + 1];                  /* by their log_lines; each leads to another one */
+/* a chunk, and how much of it is left */
+static struct pool { char *chunk; uint64_t left; } cell_pool, key_pool;
+/* by their log_lines; each leads to another one */
+static key_line *free_tables[MOST_LOG + 1];
 
 /* ---- memory ---- */
 static void *new_memory(uint64_t bytes) {
-    void *p = (void *)syscall(SYS_mmap, 0, bytes, PROT_READ | PROT_WRITE, MAP_PRIVATE | MAP_ANONYMOUS | MAP_NORESERVE, -1, 0);
+    void *p = (void *)syscall(SYS_mmap, 0, bytes, PROT_READ | PROT_WRITE,
+                              MAP_PRIVATE | MAP_ANONYMOUS | MAP_NORESERVE, -1, 0);
     return p == MAP_FAILED ? 0 : p;
 }
 
@@ -92,7 +103,8 @@ static void *memory_from(struct pool *pool, uint64_t bytes) {
         char *chunk = memory_left >= CHUNK_BYTES && chunk_count < CHUNKS ? new_memory(CHUNK_BYTES) : 0;
         if (!chunk) return 0;
         memory_left -= CHUNK_BYTES;
-        syscall(SYS_madvise, chunk, CHUNK_BYTES, MADV_HUGEPAGE);       /* all of it gets used, and at random */
+        /* all of it gets used, and at random */
+        syscall(SYS_madvise, chunk, CHUNK_BYTES, MADV_HUGEPAGE);
         pool->chunk = chunks[chunk_count++] = chunk;
         pool->left = CHUNK_BYTES;
     }
@@ -100,7 +112,8 @@ static void *memory_from(struct pool *pool, uint64_t bytes) {
     return pool->chunk + pool->left;
 }
 
-/* Once there is no memory there never is again: a page whose first accesses were met without cells must not get any later. */
+/* Once there is no memory there never is again: a page whose first accesses were met without cells must not
+   get any later. */
 static void *out_of_memory(void) {
     memory_left = cell_pool.left = 0;
     return 0;
@@ -112,7 +125,8 @@ typedef struct { uint32_t *use; uint64_t *word; } key;
 static key key_in(key_line *line, int k) { return (key){&line->uses[k], &line->words[k]}; }
 static int key_count(const cell *c) { return c->log_lines ? KEYS_OF_LINE << (c->log_lines - 1) : KEYS; }
 static key key_at(cell *c, int k) {
-    return c->log_lines ? key_in((key_line *)c->words[0] + k / KEYS_OF_LINE, k % KEYS_OF_LINE) : (key){&c->uses[k], &c->words[k]};
+    return c->log_lines ? key_in((key_line *)c->words[0] + k / KEYS_OF_LINE, k % KEYS_OF_LINE)
+        : (key){&c->uses[k], &c->words[k]};
 }
 static int is_held(key key) { return *key.use && *key.word; }
 
@@ -171,7 +185,9 @@ static int grow_keys(cell *c) {
 }
 
 /* A fifth of a table stays free. */
-static int is_full(const cell *c) { return c->used >= (c->log_lines ? (KEYS_OF_LINE - 1) << (c->log_lines - 1) : KEYS); }
+static int is_full(const cell *c) {
+    return c->used >= (c->log_lines ? (KEYS_OF_LINE - 1) << (c->log_lines - 1) : KEYS);
+}
 static int has_free_key(cell *c) { return !is_full(c) || grow_keys(c); }
 
 /* ---- pages ---- */
@@ -184,7 +200,9 @@ static inline cell_page *page_at(uint64_t address, int make) {
 }
 
 /* The cells of a page that is known; or null. */
-static cell **cells_at(uint64_t address) { return &cell_regions[address >> REGION_BITS]->cells[address / CELL_PAGE % PAGES_OF_REGION]; }
+static cell **cells_at(uint64_t address) {
+    return &cell_regions[address >> REGION_BITS]->cells[address / CELL_PAGE % PAGES_OF_REGION];
+}
 
 static cell *make_cells(cell_page *page, uint64_t address) {
     cell *cells = memory_from(&cell_pool, PAGE_BYTES);
@@ -196,7 +214,9 @@ static cell *make_cells(cell_page *page, uint64_t address) {
 }
 
 static unsigned number_in_page(uint64_t address) { return address / GRAIN % CELLS_OF_PAGE; }
-static uint64_t address_in_page(uint64_t address, unsigned k) { return address / CELL_PAGE * CELL_PAGE + k * GRAIN; }
+static uint64_t address_in_page(uint64_t address, unsigned k) {
+    return address / CELL_PAGE * CELL_PAGE + k * GRAIN;
+}
 
 /* Its cell in a page that may be null; or null. */
 static cell *cell_in(cell_page *page, uint64_t address) {
@@ -206,7 +226,9 @@ static cell *cell_in(cell_page *page, uint64_t address) {
 
 /* ---- marks of cells ---- */
 static uint64_t bit_of(uint64_t address) { return 1ull << address / GRAIN % 64; }
-static int is_freed(const cell_page *page, uint64_t address) { return (page->freed[number_in_page(address) / 64] & bit_of(address)) != 0; }
+static int is_freed(const cell_page *page, uint64_t address) {
+    return (page->freed[number_in_page(address) / 64] & bit_of(address)) != 0;
+}
 
 /* The bits in a word of marks of the cells from one to another. */
 static uint64_t bits_between(unsigned word, unsigned first, unsigned last) {
@@ -279,7 +301,8 @@ static int hold_new(cell *c, uint64_t address, uint32_t use, uint64_t word) {
     return c->is_first;
 }
 
-/* Is a use of the cell's owner or of one of its readers held back? Right after the same one, with nothing between, it has its position. */
+/* Is a use of the cell's owner or of one of its readers held back? Right after the same one, with nothing
+   between, it has its position. */
 static int hold_in_cell(cell *c, uint64_t address, cell_use use, uint64_t word) {
     if (!is_read(use.what)) c->is_only_read = 0;
     uint32_t number = word ? number_of_use(use) : 0;
@@ -334,7 +357,8 @@ static int give_to_readers(cell *c) {
 
 /* May another thread read it in this phase? */
 static int is_for_readers(cell *c, uint32_t serial, cell_use use) {
-    return c->owner && c->owner != serial && c->is_only_read && is_read(use.what) && has_reader(use.from) && number_of_use(use) && give_to_readers(c);
+    return c->owner && c->owner != serial && c->is_only_read && is_read(use.what) && has_reader(use.from)
+        && number_of_use(use) && give_to_readers(c);
 }
 
 /* ---- accesses ---- */
@@ -364,7 +388,8 @@ static void use_whole_page(cell_page *page, uint32_t serial, uint16_t number, ui
     cell *cells = *cells_at(address);
     if (page->is_whole && page->owner == serial) return;
     page->is_first = !cells && !page->is_whole && !has_freed(page);
-    for (unsigned k = 0; cells && k < CELLS_OF_PAGE; k++) use_cell(page, &cells[k], address_in_page(address, k), serial, number);
+    for (unsigned k = 0; cells && k < CELLS_OF_PAGE; k++)
+        use_cell(page, &cells[k], address_in_page(address, k), serial, number);
     page->owner = serial;
     page->number = number;
     page->is_whole = 1;
@@ -393,7 +418,8 @@ static inline uint64_t *known_word(cell *c, cell_use use) {
     return is_same(cell_uses[slot], use) ? find_word(c, slot) : 0;
 }
 
-/* The word of a use that the cell gets, if it hasn't it; null if it isn't in a first phase, or has no room. */
+/* The word of a use that the cell gets, if it hasn't it; null if it isn't in a first phase, or has
+   no room. */
 static uint64_t *new_word(cell *c, cell_use use) {
     uint32_t number = c->is_first ? number_of_use(use) : 0;
     uint64_t *word = number ? find_word(c, number) : 0;
@@ -401,7 +427,8 @@ static uint64_t *new_word(cell *c, cell_use use) {
 }
 
 static inline __attribute__((always_inline))
-int words_in_cells(uint32_t serial, cell_use use, uint64_t address, uint64_t end, uint64_t **words, uint64_t *word_in(cell *, cell_use)) {
+int words_in_cells(uint32_t serial, cell_use use, uint64_t address, uint64_t end, uint64_t **words,
+                   uint64_t *word_in(cell *, cell_use)) {
     int count = 0;
     cell *c = 0;
     uint64_t at = address / GRAIN * GRAIN;
@@ -448,7 +475,8 @@ static void free_range(uint32_t serial, uint16_t number, uint64_t address, uint6
         stop = end_in_page(address, end);
         cell_page *page = page_at(address, 1);
         if (!page || (page->is_whole && page->owner == serial)) continue;
-        if (!page->is_whole || *cells_at(address) || make_cells(page, address)) free_cells(page, serial, number, address, stop);
+        if (!page->is_whole || *cells_at(address) || make_cells(page, address))
+            free_cells(page, serial, number, address, stop);
     }
 }
 
@@ -488,9 +516,11 @@ static enum operation operation_of(struct record r) { return r.what >> 48 & 63; 
 
 static int is_in_one(uint64_t address, uint64_t end) { return address / GRAIN == (end - 1) / GRAIN; }
 
-/* An atomic access of several cells, or a use of an object: it is recorded, and may conflict with all others. */
+/* An atomic access of several cells, or a use of an object: it is recorded, and may conflict with
+   all others. */
 static int is_used_by_all(enum operation operation, uint64_t address, uint64_t end) {
-    return is_atomic(operation) ? !is_in_one(address, end) : operation >= OP_LOCK_INIT && operation <= OP_DESTROY;
+    return is_atomic(operation) ? !is_in_one(address, end) : operation >= OP_LOCK_INIT
+        && operation <= OP_DESTROY;
 }
 
 int hold_back(uint32_t serial, struct record r, uint64_t bytes, uint64_t kind, uint64_t word) {
@@ -501,7 +531,8 @@ int hold_back(uint32_t serial, struct record r, uint64_t bytes, uint64_t kind, u
     if (operation == OP_FREE) free_range(serial, number, address, end);
     else if (operation == OP_ALLOC || operation == OP_START) renew(address, end);
     else if (is_used_by_all(operation, address, end)) use_range(USED_BY_ALL, 0, address, end);
-    else if (operation <= OP_ATOMIC_UPDATE && is_in_one(address, end)) return hold_in_one(serial, r, kind, word);
+    else if (operation <= OP_ATOMIC_UPDATE && is_in_one(address, end))
+        return hold_in_one(serial, r, kind, word);
     else if (is_plain(operation)) return hold_in_several(serial, r, end, kind, word);
     return 0;
 }

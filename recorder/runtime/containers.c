@@ -1,9 +1,9 @@
-/* What std::map, set, list and string read and write in functions of the C++ library, which have no hooks: by their
-   symbols, of the library's present layout, which its programs have in them. An insertion or removal writes the
-   ends of a tree, whichever node it is of, for by the C++ standard it changes the container: a search or walk
-   that nothing orders with it is a race. A step reads the node's own links; those of the nodes that it passes
-   aren't recorded. A node that is put in is new, and one that is taken out is freed.
-   The symbols are hidden from linkers: a C++ library that is linked into a program has its own. */
+/* What std::map, set, list and string read and write in functions of the C++ library, which have no hooks: by
+   their symbols, of the library's present layout, which its programs have in them. An insertion or removal
+   writes the ends of a tree, whichever node it is of, for by the C++ standard it changes the container: a
+   search or walk that nothing orders with it is a race. A step reads the node's own links; those of the nodes
+   that it passes aren't recorded. A node that is put in is new, and one that is taken out is freed. The
+   symbols are hidden from linkers: a C++ library that is linked into a program has its own. */
 #include "hold.h"
 #include "libraries.h"
 #include "library.h"
@@ -27,7 +27,8 @@ static __attribute__((noinline)) void note_link(enum operation operation, const 
 
 /* ---- trees ---- */
 #define STEP(name) \
-    HOOKED(GLIBCXX_3.4, tree_node *, name, (tree_node *x), (x), READS_LINK(x->right); if (!x->right) READS_LINK(x->parent))
+    HOOKED(GLIBCXX_3.4, tree_node *, name, (tree_node *x), (x), READS_LINK(x->right); if (!x->right) \
+        READS_LINK(x->parent))
 STEP(_ZSt18_Rb_tree_incrementPSt18_Rb_tree_node_base)
 STEP(_ZSt18_Rb_tree_incrementPKSt18_Rb_tree_node_base)
 /* Before the end is the last one, as it has it in the place of a right one. */
@@ -90,19 +91,22 @@ static void swaps(list_node *x, uint64_t caller) {
 LIST(4swapERS0_S1_, (list_node *x, list_node *y), (x, y), swaps(x, caller); swaps(y, caller))
 
 /* ---- strings ---- */
-/* By the standard each call that isn't const changes the string, but for those that only give access to characters.
-   So it writes the words that say where these are and how many, which all others read. Of the characters a call reads
-   and writes those that it uses; and where the block may become another one, it writes all of the old one.
-   strings.py says which calls there are. */
+/* By the standard each call that isn't const changes the string, but for those that only give access to
+   characters. So it writes the words that say where these are and how many, which all others read. Of the
+   characters a call reads and writes those that it uses; and where the block may become another one, it
+   writes all of the old one. strings.py says which calls there are. */
 typedef unsigned __int128 two_words;   /* what a call returns, if not where its first word says */
-typedef struct { char *characters; uint64_t length, capacity; } string;         /* short ones are where the capacity is */
+/* short ones are where the capacity is */
+typedef struct { char *characters; uint64_t length, capacity; } string;
 typedef union { uint64_t n; const char *text; string *s; } word;                 /* an argument */
 typedef struct { uint64_t caller, added; string was; } string_call;
 #define ALL (~0ull)
 #define APART static __attribute__((noinline))      /* two hundred calls are made of them */
 
 static int is_short(const string *s) { return s->characters == (char *)&s->capacity; }
-static uint64_t capacity_of(const string *s) { return is_short(s) ? 2 * sizeof s->capacity - 1 : s->capacity; }
+static uint64_t capacity_of(const string *s) {
+    return is_short(s) ? 2 * sizeof s->capacity - 1 : s->capacity;
+}
 
 static void note_words(string_call *its, enum operation operation, string *s) {
     note_link(operation, &s->characters, its->caller);
@@ -111,7 +115,9 @@ static void note_words(string_call *its, enum operation operation, string *s) {
 APART int is_seen(uint64_t caller) { return others && instrumented(caller); }
 APART void reads_words(string_call *its, string *s) { note_words(its, OP_READ, s); }
 APART void writes_words(string_call *its, string *s) { note_words(its, OP_WRITE, s); }
-APART void writes(string_call *its, const char *from, uint64_t count) { note_range(its->caller, OP_WRITE, from, count); }
+APART void writes(string_call *its, const char *from, uint64_t count) {
+    note_range(its->caller, OP_WRITE, from, count);
+}
 APART void reads_text(string_call *its, const char *from, uint64_t count) {
     note_range(its->caller, OP_READ, from, count);
     its->added += count;
@@ -135,7 +141,9 @@ APART void moves(string_call *its, string *s) {
     writes_words(its, s);
     if (is_short(s)) writes(its, s->characters, s->length + 1);
 }
-APART void grows(string_call *its, const string *s, uint64_t length) { its->added = length - least(length, s->length); }
+APART void grows(string_call *its, const string *s, uint64_t length) {
+    its->added = length - least(length, s->length);
+}
 APART void will_change(string_call *its, string *s) {
     writes_words(its, s);
     its->was = *s;

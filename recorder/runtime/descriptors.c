@@ -8,10 +8,13 @@
 #include <sys/stat.h>
 #include <sys/uio.h>
 
-/* ---- what is written, closed or added to an epoll comes before what reads it, gets its number or is woken ---- */
+/* ---- what is written, closed or added to an epoll comes before what reads it, gets its number or is
+   woken ---- */
 enum { DESCRIPTORS = 1 << 16 };
-static int pair_of[DESCRIPTORS];       /* what leads to the same data has one number, that of one of them; plus one */
-static uint64_t key_of[DESCRIPTORS];   /* equal at both ends of a connection, and of a FIFO that is opened by its name; or 0 */
+/* what leads to the same data has one number, that of one of them; plus one */
+static int pair_of[DESCRIPTORS];
+/* equal at both ends of a connection, and of a FIFO that is opened by its name; or 0 */
+static uint64_t key_of[DESCRIPTORS];
 static char is_known[DESCRIPTORS];
 static char connects[DESCRIPTORS];     /* where a connection may come about that isn't known yet */
 
@@ -22,8 +25,8 @@ static void *number_of(int f) { return (void *)(FIRST_DESCRIPTOR + (uint64_t)(un
 /* It is another file now. */
 static void is_new(int f) { if (is_small(f)) pair_of[f] = is_known[f] = connects[f] = key_of[f] = 0; }
 
-/* The descriptor that has this key already, also if it is closed by now, is of the same data. Both ends may come here at once;
-   no handler of a signal does meanwhile. */
+/* The descriptor that has this key already, also if it is closed by now, is of the same data. Both ends may
+   come here at once; no handler of a signal does meanwhile. */
 static _Atomic int busy;
 void unlock_keys(void) { busy = 0; }
 static void know_by_key(int f, uint64_t key) {
@@ -76,7 +79,8 @@ static void know_connection(int f) {
     int saved = errno;
     memset(&here, 0, sizeof here);
     memset(&there, 0, sizeof there);
-    if (is_small(f) && !getsockname(f, (void *)&here, &here_size) && !getpeername(f, (void *)&there, &there_size))
+    if (is_small(f) && !getsockname(f, (void *)&here, &here_size)
+        && !getpeername(f, (void *)&there, &there_size))
         know_by_key(f, (sum_of(&here, here_size) + sum_of(&there, there_size)) | 1ull << 63);
     errno = saved;
 }
@@ -116,22 +120,26 @@ enum { MOST_BYTES = 0x7ffff000 };      /* that the kernel takes at once */
 
 int copy_in(void *to, const void *from, size_t bytes) {
     struct iovec here = {to, bytes}, there = {(void *)from, bytes};
-    int saved = errno, done = syscall(SYS_process_vm_readv, getpid(), &here, 1, &there, 1, 0) == (ssize_t)bytes;
+    int saved = errno,
+        done = syscall(SYS_process_vm_readv, getpid(), &here, 1, &there, 1, 0) == (ssize_t)bytes;
     errno = saved;
     return done;
 }
 
 /* As many bytes of several pieces of memory, in their order. */
-static void note_pieces(uint64_t seen, enum operation operation, const struct iovec *pieces, size_t count, size_t bytes) {
+static void note_pieces(uint64_t seen, enum operation operation, const struct iovec *pieces, size_t count,
+                        size_t bytes) {
     struct iovec piece;
-    for (size_t i = 0; seen && i < count && i < IOV_MAX && bytes && copy_in(&piece, &pieces[i], sizeof piece); i++) {
+    for (size_t i = 0; seen && i < count && i < IOV_MAX && bytes
+         && copy_in(&piece, &pieces[i], sizeof piece); i++) {
         size_t part = least(piece.iov_len, bytes);
         note_range(seen, operation, piece.iov_base, part);
         bytes -= part;
     }
 }
 
-static void note_message(uint64_t seen, enum operation operation, const struct msghdr *message, size_t bytes) {
+static void note_message(uint64_t seen, enum operation operation, const struct msghdr *message,
+                         size_t bytes) {
     struct msghdr m;
     if (seen && copy_in(&m, message, sizeof m)) note_pieces(seen, operation, m.msg_iov, m.msg_iovlen, bytes);
 }
@@ -161,8 +169,10 @@ static void note_message(uint64_t seen, enum operation operation, const struct m
 SENDS(ssize_t, write, (int f, const void *p, size_t n), (f, p, n), SENDS_BYTES(n))
 SENDS(ssize_t, writev, (int f, const struct iovec *p, int n), (f, p, n), SENDS_PIECES)
 SENDS(ssize_t, send, (int f, const void *p, size_t n, int k), (f, p, n, k), SENDS_BYTES(n))
-SENDS(ssize_t, sendmsg, (int f, const struct msghdr *m, int k), (f, m, k), note_message(seen, OP_READ, m, MOST_BYTES))
-SENDS(ssize_t, sendto, (int f, const void *p, size_t n, int k, const struct sockaddr *a, socklen_t l), (f, p, n, k, a, l),
+SENDS(ssize_t, sendmsg, (int f, const struct msghdr *m, int k), (f, m, k),
+      note_message(seen, OP_READ, m, MOST_BYTES))
+SENDS(ssize_t, sendto, (int f, const void *p, size_t n, int k, const struct sockaddr *a, socklen_t l),
+      (f, p, n, k, a, l),
       SENDS_BYTES(n))
 SENDS(int, sendmmsg, (int f, struct mmsghdr *m, unsigned n, int k), (f, m, n, k),
       for (unsigned i = 0; i < least(n, IOV_MAX); i++) note_message(seen, OP_READ, &m[i].msg_hdr, MOST_BYTES))
@@ -175,21 +185,28 @@ RECEIVES(ssize_t, recv, (int f, void *p, size_t n, int k), (f, p, n, k), GETS_BY
 RECEIVES(ssize_t, recvmsg, (int f, struct msghdr *m, int k), (f, m, k), note_message(seen, OP_WRITE, m, r))
 RECEIVES(int, recvmmsg, (int f, struct mmsghdr *m, unsigned n, int k, struct timespec *d), (f, m, n, k, d),
          for (int i = 0; i < r; i++) note_message(seen, OP_WRITE, &m[i].msg_hdr, m[i].msg_len))
-RECEIVES(ssize_t, recvfrom, (int f, void *p, size_t n, int k, struct sockaddr *a, socklen_t *l), (f, p, n, k, a, l),
+RECEIVES(ssize_t, recvfrom, (int f, void *p, size_t n, int k, struct sockaddr *a, socklen_t *l),
+         (f, p, n, k, a, l),
          GETS_BYTES(least(r, n)))
-RECEIVES(int, epoll_wait, (int f, struct epoll_event *p, int n, int ms), (f, p, n, ms), GETS_BYTES(r * sizeof *p))
+RECEIVES(int, epoll_wait, (int f, struct epoll_event *p, int n, int ms), (f, p, n, ms),
+         GETS_BYTES(r * sizeof *p))
 RECEIVES(int, epoll_pwait, (int f, struct epoll_event *p, int n, int ms, const sigset_t *s), (f, p, n, ms, s),
          GETS_BYTES(r * sizeof *p))
-int epoll_pwait2(int, struct epoll_event *, int, const struct timespec *, const sigset_t *);     /* glibc 2.35 has it */
-RECEIVES(int, epoll_pwait2, (int f, struct epoll_event *p, int n, const struct timespec *d, const sigset_t *s), (f, p, n, d, s),
+/* glibc 2.35 has it */
+int epoll_pwait2(int, struct epoll_event *, int, const struct timespec *, const sigset_t *);
+RECEIVES(int, epoll_pwait2,
+         (int f, struct epoll_event *p, int n, const struct timespec *d, const sigset_t *s), (f, p, n, d, s),
          GETS_BYTES(r * sizeof *p))
 /* At a place of a file, which is no order: a pipe has none. */
-BEFORE(ssize_t, pwrite, (int f, const void *p, size_t n, off_t at), (f, p, n, at), READS(p, least(n, MOST_BYTES)))
+BEFORE(ssize_t, pwrite, (int f, const void *p, size_t n, off_t at), (f, p, n, at),
+       READS(p, least(n, MOST_BYTES)))
 BEFORE(ssize_t, pwritev, (int f, const struct iovec *p, int n, off_t at), (f, p, n, at), SENDS_PIECES)
 AFTER(ssize_t, pread, (int f, void *p, size_t n, off_t at), (f, p, n, at), if (r > 0) WRITES(p, r))
 AFTER(ssize_t, preadv, (int f, const struct iovec *p, int n, off_t at), (f, p, n, at), if (r > 0) GETS_PIECES)
-PUBLIC __typeof__(pwrite) pwrite64 __attribute__((alias("pwrite"))); PUBLIC __typeof__(pwritev) pwritev64 __attribute__((alias("pwritev")));
-PUBLIC __typeof__(pread) pread64 __attribute__((alias("pread"))); PUBLIC __typeof__(preadv) preadv64 __attribute__((alias("preadv")));
+PUBLIC __typeof__(pwrite) pwrite64 __attribute__((alias("pwrite")));
+PUBLIC __typeof__(pwritev) pwritev64 __attribute__((alias("pwritev")));
+PUBLIC __typeof__(pread) pread64 __attribute__((alias("pread")));
+PUBLIC __typeof__(preadv) preadv64 __attribute__((alias("preadv")));
 /* A number that is given again; an accepted connection gets what was done before it was made, too. */
 #define GIVES_NUMBER(name, know, parameters, arguments) \
     PUBLIC int name parameters { \
@@ -226,7 +243,9 @@ static int note_pair(int error, int *f, uint64_t caller) {
 }
 PUBLIC int pipe(int f[2]) { return note_pair(REAL(pipe)(f), f, CALLER); }
 PUBLIC int pipe2(int f[2], int k) { return note_pair(REAL(pipe2)(f, k), f, CALLER); }
-PUBLIC int socketpair(int d, int k, int p, int f[2]) { return note_pair(REAL(socketpair)(d, k, p, f), f, CALLER); }
+PUBLIC int socketpair(int d, int k, int p, int f[2]) {
+    return note_pair(REAL(socketpair)(d, k, p, f), f, CALLER);
+}
 /* ---- the end of a descriptor; the recorder's own are not the program's to close ---- */
 PUBLIC int close(int f) {
     if (is_kept(f)) {
@@ -235,7 +254,8 @@ PUBLIC int close(int f) {
     }
     note_descriptor(OP_POST, number_of(f), CALLER);
     note_descriptor(OP_POST, data_of(f), CALLER);
-    if (is_small(f)) pair_of[f] = is_known[f] = connects[f] = 0;    /* its key stays for a connection that isn't accepted yet */
+    /* its key stays for a connection that isn't accepted yet */
+    if (is_small(f)) pair_of[f] = is_known[f] = connects[f] = 0;
     return REAL(close)(f);
 }
 

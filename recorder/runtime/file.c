@@ -1,6 +1,7 @@
-/* The files of the record and of its list of turns, and /proc.  Their descriptors have numbers that programs aren't given,
-   and are spared where they close all that they have; what reached one nevertheless is seen before each use, for then the
-   number may stand for a file of the program's.  Whatever fails leaves errno. */
+/* The files of the record and of its list of turns, and /proc.  Their descriptors have numbers that
+   programs aren't given, and are spared where they close all that they have; what reached one nevertheless
+   is seen before each use, for then the number may stand for a file of the program's.  Whatever fails
+   leaves errno. */
 #include "runtime.h"
 #include <fcntl.h>
 #include <sys/file.h>
@@ -98,7 +99,8 @@ int is_kept(int descriptor) { return descriptor >= 0 && next_kept(descriptor) ==
 void leave_number(int descriptor) {
     thread *t = is_kept(descriptor) ? enter(NEVER_YIELD) : 0;           /* so nobody uses the old one now */
     for (int which = 0; which < KEPT; which++)
-        if (is_kept(descriptor) && kept[which].number == descriptor) kept[which].number = moved_up(descriptor, descriptor + 1);
+        if (is_kept(descriptor) && kept[which].number == descriptor)
+            kept[which].number = moved_up(descriptor, descriptor + 1);
     if (t) leave(t);
 }
 
@@ -117,8 +119,8 @@ static int have(int which) {
 /* ---- /proc, which a program may lose by chroot ---- */
 int open_proc(void) { return keep(PROC, 0); }
 
-/* Reads a file of one of the process's threads; returns how many bytes, or an error below 0.  The calls of the C library would
-   be points where a thread may be cancelled. */
+/* Reads a file of one of the process's threads; returns how many bytes, or an error below 0.  The calls of
+   the C library would be points where a thread may be cancelled. */
 int read_task_file(pid_t system_id, const char *leaf, char *text, int size) {
     char name[64];
     snprintf(name, sizeof name, "self/task/%d/%s", system_id, leaf);
@@ -152,7 +154,8 @@ int add_space(enum kept_file which, uint64_t from, uint64_t bytes) {
     int file = kept[which].number;
     if (syscall(SYS_fallocate, file, 0, from, bytes) == 0) return 1;
     if (errno != EOPNOTSUPP && errno != ENOSYS) return 0;
-    for (uint64_t at = from; at < from + bytes; at += sizeof zeros)      /* this file system has no such call */
+    /* this file system has no such call */
+    for (uint64_t at = from; at < from + bytes; at += sizeof zeros)
         if (syscall(SYS_pwrite64, file, zeros, sizeof zeros, at) != sizeof zeros) return 0;
     return 1;
 }
@@ -237,24 +240,27 @@ static int is_foreign(int file, const char *begin) {
     return n > 0 && strncmp(text, begin, n);
 }
 
-/* Whose record stands in the file, where it isn't one of this command: a script that runs two would lose it in silence. */
+/* Whose record stands in the file, where it isn't one of this command: a script that runs two would lose it
+   in silence. */
 static void tell_what_is_replaced(const char *command) {
     char text[sizeof RECORD_MAGIC + COMMAND_BYTES] = "", *line = text + strlen(RECORD_MAGIC);
-    if (pread(kept[RECORD].number, text, sizeof text - 1, 0) < 0 || strncmp(text, RECORD_MAGIC "command ", strlen(RECORD_MAGIC "command "))) return;
+    if (pread(kept[RECORD].number, text, sizeof text - 1, 0) < 0
+        || strncmp(text, RECORD_MAGIC "command ", strlen(RECORD_MAGIC "command "))) return;
     if (!strncmp(line, command, strlen(command))) return;
     line[strcspn(line, "\n")] = 0;
-    tell("shb recorder: in %s the record of another command is replaced (%s); %%p in the path gives each process a "
-            "record of its own\n", path, line + strlen("command "));
+    tell("shb recorder: in %s the record of another command is replaced (%s); %%p in the path gives each "
+            "process a record of its own\n", path, line + strlen("command "));
 }
 
-/* Opens the file and locks it: cut by a second process it would be a SIGBUS in the first.  Says why it can't. */
+/* Opens the file and locks it: cut by a second process it would be a SIGBUS in the first.  Says why
+   it can't. */
 int open_file(const char *command, uint64_t first_bytes, uint64_t segment) {
     number_path(segment);
     if (!keep(RECORD, O_CREAT)) return refuse(path);
     int file = kept[RECORD].number;
     if (flock(file, LOCK_EX | LOCK_NB) && errno == EWOULDBLOCK) {
-        tell("shb recorder: another process records to %s; the program runs unrecorded (%%p in the path gives "
-                "each process a record of its own)\n", path);
+        tell("shb recorder: another process records to %s; the program runs unrecorded (%%p in the path "
+                "gives each process a record of its own)\n", path);
         return 0;
     }
     if (is_foreign(file, ANY_RECORD)) {
@@ -262,7 +268,8 @@ int open_file(const char *command, uint64_t first_bytes, uint64_t segment) {
         return 0;
     }
     if (!has_number()) tell_what_is_replaced(command);
-    if (!may_have(first_bytes) || (ftruncate(file, 0) && errno != EINVAL) || !add_space(RECORD, 0, HEADER_BYTES)) return refuse(path);
+    if (!may_have(first_bytes) || (ftruncate(file, 0) && errno != EINVAL)
+        || !add_space(RECORD, 0, HEADER_BYTES)) return refuse(path);
     return 1;
 }
 
@@ -270,7 +277,8 @@ int open_file(const char *command, uint64_t first_bytes, uint64_t segment) {
 int open_turns(uint64_t first_bytes) {
     size_t n = strlen(path), end = strlen(".rec");
     if (n > end && !strcmp(path + n - end, ".rec")) n -= end;
-    if (snprintf(kept[TURNS].path, PATH_MAX, "%.*s.turns", (int)n, path) >= PATH_MAX || !keep(TURNS, O_CREAT)) return 0;
+    if (snprintf(kept[TURNS].path, PATH_MAX, "%.*s.turns", (int)n, path) >= PATH_MAX || !keep(TURNS, O_CREAT))
+        return 0;
     int file = kept[TURNS].number;
     return !is_foreign(file, ANY_TURNS) && !ftruncate(file, 0) && add_space(TURNS, 0, first_bytes);
 }

@@ -1,5 +1,6 @@
-/* Formatted output and input: the format says which arguments are addresses of what is read or written.  Of numbered
-   arguments ("%1$s"), and of what follows a conversion that isn't known here, nothing is recorded. */
+/* Formatted output and input: the format says which arguments are addresses of what is read or written.
+   Of numbered arguments ("%1$s"), and of what follows a conversion that isn't known here, nothing is
+   recorded. */
 #include "library.h"
 #include <wchar.h>
 
@@ -55,10 +56,12 @@ static struct conversion next_conversion(const char *p, enum direction direction
 
 static int is_one_of(char kind, const char *kinds) { return strchr(kinds, kind) != 0; }
 static int is_wide(const struct conversion *c) { return c->size == 8 || c->kind == 'S' || c->kind == 'C'; }
-static size_t wide_text(const wchar_t *s, size_t most) { return least(wcsnlen(s, most) + 1, most) * sizeof *s; }
+static size_t wide_text(const wchar_t *s, size_t most) {
+    return least(wcsnlen(s, most) + 1, most) * sizeof *s;
+}
 
-/* A function with its arguments one by one, and the one that takes a list of them, `more`; r is what it returns. By their symbols, for a header
-   may give the functions of the C standard other names. */
+/* A function with its arguments one by one, and the one that takes a list of them, `more`; r is what it
+   returns. By their symbols, for a header may give the functions of the C standard other names. */
 #define ALL(...) __VA_ARGS__
 #define IN_BOTH_FORMS(name, vname, parameters, ...) \
     int as_##vname(ALL parameters, va_list more) __asm__(#vname); \
@@ -91,7 +94,8 @@ static void note_output(uint64_t seen, const char *format, va_list given) {
     for (struct conversion c = next_conversion(format, OUTPUT); c.kind; c = next_conversion(c.end, OUTPUT)) {
         if (c.star) (void)va_arg(more, int);
         int precision = c.star_behind_point ? va_arg(more, int) : c.precision;
-        if (is_one_of(c.kind, "diouxXcCp")) (void)va_arg(more, long);    /* one of fewer bytes takes as many */
+        /* one of fewer bytes takes as many */
+        if (is_one_of(c.kind, "diouxXcCp")) (void)va_arg(more, long);
         else if (is_one_of(c.kind, "eEfFgGaA") && c.size == 16) (void)va_arg(more, long double);
         else if (is_one_of(c.kind, "eEfFgGaA")) (void)va_arg(more, double);
         else if (is_one_of(c.kind, "sS")) note_text_of(seen, &c, va_arg(more, void *), precision);
@@ -155,7 +159,8 @@ static void note_input(uint64_t seen, const char *format, va_list more, int stor
         if (seen) { gets; } \
         if (seen && r >= 0) note_input(seen, format, given, r); \
         va_end(given);
-#define SCANS(name, vname, parameters, arguments, gets, ...) IN_BOTH_FORMS(name, vname, parameters, INPUTS(vname, arguments, gets, __VA_ARGS__))
+#define SCANS(name, vname, parameters, arguments, gets, ...) \
+    IN_BOTH_FORMS(name, vname, parameters, INPUTS(vname, arguments, gets, __VA_ARGS__))
 #define SCANS_BY_NAMES(name, vname, parameters, arguments, gets, ...) \
     SCANS(name, vname, parameters, arguments, gets, __VA_ARGS__) \
     SCANS(__isoc99_##name, __isoc99_##vname, parameters, arguments, gets, __VA_ARGS__) \

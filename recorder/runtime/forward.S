@@ -1,8 +1,10 @@
-.file "forward.S"      /* else the library has the name of a temporary file, and the package other bytes each time */
-/* Functions of the C library that are handed on to it in its newest version (forwarded.py says which). A function of this
-   library takes the place of one that is here. */
+/* Without it the library has the name of a temporary file, and the package other bytes each time. */
+.file "forward.S"
+/* Functions of the C library that are handed on to it in its newest version (forwarded.py says which). A
+   function of this library takes the place of one that is here. */
 
-/* An entry of the table is a name and, from its first call on or before, the function. A jump leaves all arguments as they are. */
+/* An entry of the table is a name and, from its first call on or before, the function. A jump leaves all
+   arguments as they are. */
 .macro FORWARD name
     .section .rodata
 .Lname\@:
@@ -27,7 +29,8 @@
 .endm
 
     .text
-/* Finds the function of the entry in r11, with all arguments kept: six words, eight numbers, how many of these. */
+/* Finds the function of the entry in r11, with all arguments kept: six words, eight numbers, how many of
+   these. */
     .type forward_first, @function
 forward_first:
     pushq %rbp
@@ -54,8 +57,8 @@ forward_first:
     jmp *%r11
     .size forward_first, . - forward_first
 
-/* Names of ThreadSanitizer's library at which nothing is done, for the record has nothing of it, or that ask for what there isn't. Whatever
-   their words are, the answer is 0 or a null pointer. */
+/* Names of ThreadSanitizer's library at which nothing is done, for the record has nothing of it, or that ask
+   for what there isn't. Whatever their words are, the answer is 0 or a null pointer. */
 .macro NOTHING names:vararg
     .irp name, \names
     .globl \name
@@ -63,28 +66,36 @@ forward_first:
 \name:
     .endr
 .endm
-    NOTHING AnnotateBenignRace, AnnotateBenignRaceSized, AnnotateCondVarSignal, AnnotateCondVarSignalAll, AnnotateCondVarWait
-    NOTHING AnnotateEnableRaceDetection, AnnotateExpectRace, AnnotateFlushExpectedRaces, AnnotateFlushState, AnnotateIgnoreReadsBegin
-    NOTHING AnnotateIgnoreReadsEnd, AnnotateIgnoreSyncBegin, AnnotateIgnoreSyncEnd, AnnotateIgnoreWritesBegin, AnnotateIgnoreWritesEnd
-    NOTHING AnnotateMemoryIsInitialized, AnnotateMemoryIsUninitialized, AnnotateMutexIsNotPHB, AnnotateMutexIsUsedAsCondVar, AnnotateNewMemory
-    NOTHING AnnotateNoOp, AnnotatePCQCreate, AnnotatePCQDestroy, AnnotatePCQGet, AnnotatePCQPut, AnnotatePublishMemoryRange, AnnotateRWLockCreate
-    NOTHING AnnotateRWLockCreateStatic, AnnotateRWLockDestroy, AnnotateTraceMemory, AnnotateUnpublishMemoryRange, WTFAnnotateBenignRaceSized
-    NOTHING __tsan_external_assign_tag, __tsan_external_register_header, __tsan_external_register_tag, __tsan_flush_memory
-    NOTHING __tsan_get_alloc_stack, __tsan_get_current_report, __tsan_get_report_data, __tsan_get_report_loc, __tsan_get_report_loc_object_type
-    NOTHING __tsan_get_report_mop, __tsan_get_report_mutex, __tsan_get_report_stack, __tsan_get_report_tag, __tsan_get_report_thread
-    NOTHING __tsan_get_report_unique_tid, __tsan_ignore_thread_begin, __tsan_ignore_thread_end, __tsan_java_finalize, __tsan_java_find
-    NOTHING __tsan_java_fini, __tsan_java_free, __tsan_java_init, __tsan_mutex_create, __tsan_mutex_destroy, __tsan_mutex_post_divert
-    NOTHING __tsan_mutex_post_signal, __tsan_mutex_post_unlock, __tsan_mutex_pre_divert, __tsan_mutex_pre_lock, __tsan_mutex_pre_signal
+    NOTHING AnnotateBenignRace, AnnotateBenignRaceSized, AnnotateCondVarSignal, AnnotateCondVarSignalAll
+    NOTHING AnnotateCondVarWait, AnnotateEnableRaceDetection, AnnotateExpectRace, AnnotateFlushExpectedRaces
+    NOTHING AnnotateFlushState, AnnotateIgnoreReadsBegin, AnnotateIgnoreReadsEnd, AnnotateIgnoreSyncBegin
+    NOTHING AnnotateIgnoreSyncEnd, AnnotateIgnoreWritesBegin, AnnotateIgnoreWritesEnd
+    NOTHING AnnotateMemoryIsInitialized, AnnotateMemoryIsUninitialized, AnnotateMutexIsNotPHB
+    NOTHING AnnotateMutexIsUsedAsCondVar, AnnotateNewMemory, AnnotateNoOp, AnnotatePCQCreate
+    NOTHING AnnotatePCQDestroy, AnnotatePCQGet, AnnotatePCQPut, AnnotatePublishMemoryRange
+    NOTHING AnnotateRWLockCreate, AnnotateRWLockCreateStatic, AnnotateRWLockDestroy, AnnotateTraceMemory
+    NOTHING AnnotateUnpublishMemoryRange, WTFAnnotateBenignRaceSized
+    NOTHING __tsan_external_assign_tag, __tsan_external_register_header, __tsan_external_register_tag
+    NOTHING __tsan_flush_memory, __tsan_get_alloc_stack, __tsan_get_current_report, __tsan_get_report_data
+    NOTHING __tsan_get_report_loc, __tsan_get_report_loc_object_type, __tsan_get_report_mop
+    NOTHING __tsan_get_report_mutex, __tsan_get_report_stack, __tsan_get_report_tag, __tsan_get_report_thread
+    NOTHING __tsan_get_report_unique_tid, __tsan_ignore_thread_begin, __tsan_ignore_thread_end
+    NOTHING __tsan_java_finalize, __tsan_java_find, __tsan_java_fini, __tsan_java_free, __tsan_java_init
+    NOTHING __tsan_mutex_create, __tsan_mutex_destroy, __tsan_mutex_post_divert, __tsan_mutex_post_signal
+    NOTHING __tsan_mutex_post_unlock, __tsan_mutex_pre_divert, __tsan_mutex_pre_lock, __tsan_mutex_pre_signal
     NOTHING __tsan_set_fiber_name, __tsan_testonly_shadow_stack_current_size
-    NOTHING __sanitizer_cov_8bit_counters_init, __sanitizer_cov_bool_flag_init, __sanitizer_cov_dump, __sanitizer_cov_pcs_init
-    NOTHING __sanitizer_cov_reset, __sanitizer_cov_trace_cmp, __sanitizer_cov_trace_cmp1, __sanitizer_cov_trace_cmp2, __sanitizer_cov_trace_cmp4
-    NOTHING __sanitizer_cov_trace_cmp8, __sanitizer_cov_trace_const_cmp1, __sanitizer_cov_trace_const_cmp2, __sanitizer_cov_trace_const_cmp4
-    NOTHING __sanitizer_cov_trace_const_cmp8, __sanitizer_cov_trace_div4, __sanitizer_cov_trace_div8, __sanitizer_cov_trace_gep
-    NOTHING __sanitizer_cov_trace_pc_guard, __sanitizer_cov_trace_pc_guard_init, __sanitizer_cov_trace_pc_indir, __sanitizer_cov_trace_switch
+    NOTHING __sanitizer_cov_8bit_counters_init, __sanitizer_cov_bool_flag_init, __sanitizer_cov_dump
+    NOTHING __sanitizer_cov_pcs_init, __sanitizer_cov_reset, __sanitizer_cov_trace_cmp
+    NOTHING __sanitizer_cov_trace_cmp1, __sanitizer_cov_trace_cmp2, __sanitizer_cov_trace_cmp4
+    NOTHING __sanitizer_cov_trace_cmp8, __sanitizer_cov_trace_const_cmp1, __sanitizer_cov_trace_const_cmp2
+    NOTHING __sanitizer_cov_trace_const_cmp4, __sanitizer_cov_trace_const_cmp8, __sanitizer_cov_trace_div4
+    NOTHING __sanitizer_cov_trace_div8, __sanitizer_cov_trace_gep, __sanitizer_cov_trace_pc_guard
+    NOTHING __sanitizer_cov_trace_pc_guard_init, __sanitizer_cov_trace_pc_indir, __sanitizer_cov_trace_switch
     NOTHING __sanitizer_dump_coverage, __sanitizer_dump_trace_pc_guard_coverage
-    NOTHING __sanitizer_get_module_and_offset_for_pc, __sanitizer_get_report_path, __sanitizer_get_unmapped_bytes
-    NOTHING __sanitizer_install_malloc_and_free_hooks, __sanitizer_print_stack_trace, __sanitizer_report_error_summary
-    NOTHING __sanitizer_sandbox_on_notify, __sanitizer_set_death_callback, __sanitizer_set_report_fd, __sanitizer_set_report_path
+    NOTHING __sanitizer_get_module_and_offset_for_pc, __sanitizer_get_report_path
+    NOTHING __sanitizer_get_unmapped_bytes, __sanitizer_install_malloc_and_free_hooks
+    NOTHING __sanitizer_print_stack_trace, __sanitizer_report_error_summary, __sanitizer_sandbox_on_notify
+    NOTHING __sanitizer_set_death_callback, __sanitizer_set_report_fd, __sanitizer_set_report_path
     endbr64
     xorl %eax, %eax
     ret

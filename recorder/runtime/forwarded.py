@@ -3,9 +3,9 @@
 
     forwarded.py LIBTSAN LIBC LIBM
 
-gcc links a program with LIBTSAN first, and what LIBTSAN exports is asked for without a version. Where the C library has
-such a name in several versions, the loader would give the oldest, and not the one that a program gets that was linked without
-LIBTSAN. Nothing is printed where gcc has no LIBTSAN.
+gcc links a program with LIBTSAN first, and what LIBTSAN exports is asked for without a version. Where the C
+library has such a name in several versions, the loader would give the oldest, and not the one that a program
+gets that was linked without LIBTSAN. Nothing is printed where gcc has no LIBTSAN.
 """
 
 import collections
@@ -17,7 +17,8 @@ import sys
 def versions(library):
     """The names that a library exports, each with its versions."""
     found = collections.defaultdict(set)
-    listed = subprocess.run(["nm", "-D", "--defined-only", library], check=True, stdout=subprocess.PIPE).stdout.decode()
+    listed = subprocess.run(["nm", "-D", "--defined-only", library], check=True,
+                            stdout=subprocess.PIPE).stdout.decode()
     for line in listed.splitlines():
         name, _, version = line.split()[-1].partition("@")
         found[name].add(version.lstrip("@"))

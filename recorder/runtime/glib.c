@@ -1,4 +1,5 @@
-/* GLib's locks, conditions, queues and one-time initializations. Its threads are POSIX', which are seen as such. */
+/* GLib's locks, conditions, queues and one-time initializations. Its threads are POSIX', which are seen
+   as such. */
 #include "libraries.h"
 
 typedef int gboolean;
@@ -7,7 +8,8 @@ TRIES_LOCK(gboolean, g_mutex_trylock, OP_LOCK)
 LOCKS(g_mutex_lock, g_mutex_trylock, OP_LOCK)
 UNLOCKS(g_mutex_unlock, OP_UNLOCK)
 
-/* These are a POSIX lock within, which would be seen besides where the call waits for it. So the call never does. */
+/* These are a POSIX lock within, which would be seen besides where the call waits for it. So the call
+   never does. */
 #define LOCKS_BY_TRYING(name, try, operation) \
     TAKES_BY_TRYING(void, name, operation, DONE(REAL(name)(m)), REAL(try)(m), \
                     syscall(SYS_nanosleep, &(struct timespec){.tv_nsec = 50000}, 0), (void *m))
@@ -22,7 +24,8 @@ UNLOCKS(g_rw_lock_reader_unlock, OP_RW_UNLOCK)
 UNLOCKS(g_rw_lock_writer_unlock, OP_RW_UNLOCK)
 
 #define WAITS(type, name, real, ...) \
-    WAITS_FOR(type, name, OP_LOCK, OP_UNLOCK, REAL(g_mutex_unlock)(m), REAL(g_mutex_trylock)(m), REAL(g_mutex_lock)(m), real, (__VA_ARGS__))
+    WAITS_FOR(type, name, OP_LOCK, OP_UNLOCK, REAL(g_mutex_unlock)(m), REAL(g_mutex_trylock)(m), \
+        REAL(g_mutex_lock)(m), real, (__VA_ARGS__))
 WAITS(void, g_cond_wait, DONE(REAL(g_cond_wait)(c, m)) + 1, void *c, void *m)
 WAITS(gboolean, g_cond_wait_until, REAL(g_cond_wait_until)(c, m, until), void *c, void *m, int64_t until)
 WAKES(g_cond_signal)

@@ -1,5 +1,5 @@
-/* The locks that are held. A segment of a record begins with them, so each access has its locks, and who releases one orders those who
-   take it next. */
+/* The locks that are held. A segment of a record begins with them, so each access has its locks, and who
+   releases one orders those who take it next. */
 #include "runtime.h"
 
 enum { MOST_HELD = 1 << 16 };
@@ -29,7 +29,8 @@ static int end_holds(uint64_t where, uint64_t bits, int all) {
 void note_held(struct record r) {
     switch ((enum operation)(r.what >> 48 & 63)) {
     case OP_LOCK: case OP_READ_LOCK: case OP_WRITE_LOCK: take(r); break;
-    case OP_UNLOCK: case OP_RW_UNLOCK: if (!end_holds(r.where, ~0ull, 0)) end_holds(r.where, LOW_48_BITS, 0); break;
+    case OP_UNLOCK: case OP_RW_UNLOCK: if (!end_holds(r.where, ~0ull, 0)) end_holds(r.where, LOW_48_BITS, 0);
+    break;
     case OP_LOCK_INIT: case OP_DESTROY: end_holds(r.where, LOW_48_BITS, 1); break;
     case OP_JOIN: end_holds(r.where << 48, ~LOW_48_BITS, 1); break;
     default: break;

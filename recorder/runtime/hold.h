@@ -1,23 +1,28 @@
-/* The quick hook: an access that its thread repeats in a cell that it owns, or reads with others, is held back by a few instructions.
-   It is quick where no waiter doubts that the thread needs the turn (turn.c), the functions that it is in are recorded, and the cell
-   has the use already. Then nothing changes but the position of that use. Such a hook is a step, as others are.
-   All calls of an access's hook are jumps, so no registers are saved. */
+/* The quick hook: an access that its thread repeats in a cell that it owns, or reads with others, is held
+   back by a few instructions. It is quick where no waiter doubts that the thread needs the turn (turn.c), the
+   functions that it is in are recorded, and the cell has the use already. Then nothing changes but the
+   position of that use. Such a hook is a step, as others are. All calls of an access's hook are jumps, so no
+   registers are saved. */
 #include "runtime.h"
 #include "cells.h"
 
 void note_access(enum operation operation, uint64_t address, uint64_t size, uint64_t caller);
 void hold_elsewhere(thread *t, cell *c, uint64_t what, uint64_t address);
 
-/* What a thread's last hook was, where it left the value as it was. Its operation stands where a record has it. */
+/* What a thread's last hook was, where it left the value as it was. Its operation stands where a record
+   has it. */
 static inline uint64_t read_at(uint64_t address, uint64_t caller) {
     return ((caller ^ address << 20) & ~(63ull << 48)) | (uint64_t)OP_READ << 48;
 }
 
 /* The word of a use that is made now. */
-static inline uint64_t word_now(const thread *t) { return (uint64_t)t->in->number << CONTEXT_AT | (t->base + t->steps); }
+static inline uint64_t word_now(const thread *t) {
+    return (uint64_t)t->in->number << CONTEXT_AT | (t->base + t->steps);
+}
 
-/* Is it held back? It repeats so many that left the value as it was; right after the same one, with nothing in between, it has that one's
-   position. A plain read there isn't held back: a loop of these may wait for another thread (note_spin). */
+/* Is it held back? It repeats so many that left the value as it was; right after the same one, with nothing
+   in between, it has that one's position. A plain read there isn't held back: a loop of these may wait for
+   another thread (note_spin). */
 #define IS_PLAIN (-1)                  /* in the place of `repeats` */
 static inline __attribute__((always_inline))
 int hold_quickly(thread *t, uint64_t *word, enum operation operation, uint64_t what, int repeats) {
@@ -48,9 +53,12 @@ static inline int is_usual(const thread *t, uint64_t address) {
 }
 
 /* Null where the hook isn't quick. */
-static inline cell *usual_cell(const thread *t, uint64_t address) { return is_usual(t, address) ? find_cell(address) : 0; }
+static inline cell *usual_cell(const thread *t, uint64_t address) {
+    return is_usual(t, address) ? find_cell(address) : 0;
+}
 
-/* The word of a use in a cell of the thread's, or of readers; null where it isn't in the line in which most are. */
+/* The word of a use in a cell of the thread's, or of readers; null where it isn't in the line in which
+   most are. */
 static inline uint64_t *word_near(const thread *t, cell *c, enum operation operation, uint64_t what) {
     int is_of_readers = c->owner == READERS && only_reads(operation);
     cell_use use = {what, is_of_readers ? t->kind | t->reader : t->kind};
@@ -62,13 +70,16 @@ static inline __attribute__((always_inline))
 void hook(enum operation operation, uint64_t address, uint64_t size, uint64_t caller) {
     thread *t = self;
     if (!may_be_quick(t, address, size)) return note_access(operation, address, size, caller);
-    t->inside = 1;                     /* so no handler of a signal comes, which may change all that is read below */
+    /* so no handler of a signal comes, which may change all that is read below */
+    t->inside = 1;
     KEEP_ORDER();
     cell *c = usual_cell(t, address);
-    uint64_t what = caller + what_of_use((uint64_t)operation << 48 | (uint64_t)__builtin_ctzl(size) << 54, size < GRAIN ? address : 0);
+    uint64_t what = caller + what_of_use((uint64_t)operation << 48 | (uint64_t)__builtin_ctzl(size) << 54,
+                                         size < GRAIN ? address : 0);
     if (c) {
         uint64_t *word = word_near(t, c, operation, what);
-        if (!word || !hold_quickly(t, word, operation, what, IS_PLAIN)) return hold_elsewhere(t, c, what, address);
+        if (!word || !hold_quickly(t, word, operation, what, IS_PLAIN))
+            return hold_elsewhere(t, c, what, address);
         end_quick_hook(t);
         if (__builtin_expect(t->deferred, 0)) deliver_deferred(t);
         return;
@@ -77,13 +88,15 @@ void hook(enum operation operation, uint64_t address, uint64_t size, uint64_t ca
     note_access(operation, address, size, caller);
 }
 
-/* The hook of an atomic operation, in which it is made. It is held back as an access is: by the turn, which the thread has from the hook's
-   begin to its next one, nobody comes between the position and the operation, and by the cell, nobody else used the value since the phase
-   began. Whether it gives or takes hangs on its kind alone, so the last of a kind stands for all (cells.c).
-   A loop of those that leave the value as it is may wait for another thread, too. So after some of these one isn't quick, and the slice ends. */
+/* The hook of an atomic operation, in which it is made. It is held back as an access is: by the turn, which
+   the thread has from the hook's begin to its next one, nobody comes between the position and the operation,
+   and by the cell, nobody else used the value since the phase began. Whether it gives or takes hangs on its
+   kind alone, so the last of a kind stands for all (cells.c). A loop of those that leave the value as it is
+   may wait for another thread, too. So after some of these one isn't quick, and the slice ends. */
 enum { MOST_REPEATS = 64 };
 static inline __attribute__((always_inline))
-int begin_quick_atomic(enum operation operation, uint64_t address, uint64_t size, uint64_t size_and_order, uint64_t caller) {
+int begin_quick_atomic(enum operation operation, uint64_t address, uint64_t size, uint64_t size_and_order,
+                       uint64_t caller) {
     thread *t = self;
     if (!may_be_quick(t, address, size)) return 0;
     int repeats = t->last == read_at(address, caller) ? t->spins + 1 : 0;

@@ -1,5 +1,6 @@
-/* What else a program may call of ThreadSanitizer's library by name, so that each program that was built for it is linked and
-   runs: questions about blocks and reports, what a compiler calls to measure coverage, and the barrier of the library's tests. */
+/* What else a program may call of ThreadSanitizer's library by name, so that each program that was built for
+   it is linked and runs: questions about blocks and reports, what a compiler calls to measure coverage, and
+   the barrier of the library's tests. */
 #include "runtime.h"
 #include <linux/futex.h>
 #include <malloc.h>
@@ -19,12 +20,17 @@ PUBLIC size_t __sanitizer_get_heap_size(void) {
 PUBLIC size_t __sanitizer_get_free_bytes(void) { return mallinfo2().fordblks; }
 
 /* ---- reports and names of code: there are none while the program runs ---- */
-PUBLIC const char *__tsan_locate_address(void *p, char *name, size_t name_size, void **region, size_t *region_size) {
+PUBLIC const char *__tsan_locate_address(void *p, char *name, size_t name_size, void **region,
+                                         size_t *region_size) {
     if (name_size) *name = 0;
     return "";
 }
-PUBLIC void __sanitizer_symbolize_pc(void *code, const char *format, char *text, size_t size) { if (size) *text = 0; }
-PUBLIC void __sanitizer_symbolize_global(void *p, const char *format, char *text, size_t size) { if (size) *text = 0; }
+PUBLIC void __sanitizer_symbolize_pc(void *code, const char *format, char *text, size_t size) {
+    if (size) *text = 0;
+}
+PUBLIC void __sanitizer_symbolize_global(void *p, const char *format, char *text, size_t size) {
+    if (size) *text = 0;
+}
 PUBLIC int __sanitizer_acquire_crash_state(void) {           /* it is the first that asks who may die */
     static _Atomic int asked;
     return !atomic_exchange(&asked, 1);

@@ -1,5 +1,6 @@
-/* What functions of the C library read and write.  Those that move memory are in memory.c, formatted output and input in
-   formats.c, what goes through descriptors in descriptors.c.  A null pointer that a function accepts stands for nothing. */
+/* What functions of the C library read and write.  Those that move memory are in memory.c, formatted output
+   and input in formats.c, what goes through descriptors in descriptors.c.  A null pointer that a function
+   accepts stands for nothing. */
 #include "library.h"
 #include <arpa/inet.h>
 #include <ctype.h>
@@ -28,7 +29,8 @@ uint64_t begin_call(uint64_t caller) {
 
 void note_range(uint64_t seen, enum operation operation, const volatile void *p, uint64_t bytes) {
     uint64_t from = (uint64_t)p;
-    if (!p || !bytes || bytes >= MAX_SIZE || from >= FIRST_DESCRIPTOR || bytes > FIRST_DESCRIPTOR - from) return;
+    if (!p || !bytes || bytes >= MAX_SIZE || from >= FIRST_DESCRIPTOR || bytes > FIRST_DESCRIPTOR - from)
+        return;
     note_bytes(YIELDS_BY_LIST, operation, p, bytes, seen);
 }
 
@@ -44,7 +46,9 @@ static size_t array(size_t count, size_t size) {             /* 0 where there is
 /* To the first difference, or the end. */
 static size_t compared(const char *s, const char *o, size_t n, int without_case) {
     size_t i = 0;
-    while (i < n && s[i] && (s[i] == o[i] || (without_case && tolower((unsigned char)s[i]) == tolower((unsigned char)o[i])))) i++;
+    while (i < n && s[i]
+           && (s[i] == o[i]
+               || (without_case && tolower((unsigned char)s[i]) == tolower((unsigned char)o[i])))) i++;
     return least(i, n - 1) + 1;
 }
 
@@ -87,11 +91,14 @@ AFTER(int, strncasecmp, (const char *s, const char *o, size_t n), (s, o, n), com
 AFTER(char *, strchr, (const char *s, int c), (s, c), READS(s, to_match(s, r)))
 AFTER(char *, strchrnul, (const char *s, int c), (s, c), READS(s, r - s + 1))
 AFTER(char *, strrchr, (const char *s, int c), (s, c), READS(s, text(s)))
-AFTER(char *, strstr, (const char *s, const char *o), (s, o), READS(s, r ? up_to(s, r) + strlen(o) : text(s)), READS(o, text(o)))
-AFTER(char *, strcasestr, (const char *s, const char *o), (s, o), READS(s, r ? up_to(s, r) + strlen(o) : text(s)), READS(o, text(o)))
+AFTER(char *, strstr, (const char *s, const char *o), (s, o), READS(s, r ? up_to(s, r) + strlen(o) : text(s)),
+      READS(o, text(o)))
+AFTER(char *, strcasestr, (const char *s, const char *o), (s, o),
+      READS(s, r ? up_to(s, r) + strlen(o) : text(s)), READS(o, text(o)))
 AFTER(size_t, strspn, (const char *s, const char *set), (s, set), READS(s, r + 1), READS(set, text(set)))
 AFTER(size_t, strcspn, (const char *s, const char *set), (s, set), READS(s, r + 1), READS(set, text(set)))
-AFTER(char *, strpbrk, (const char *s, const char *set), (s, set), READS(s, to_match(s, r)), READS(set, text(set)))
+AFTER(char *, strpbrk, (const char *s, const char *set), (s, set), READS(s, to_match(s, r)),
+      READS(set, text(set)))
 COPIES(strcpy, (char *to, const char *from), (to, from), copies(seen, to, from))
 COPIES(stpcpy, (char *to, const char *from), (to, from), copies(seen, to, from))
 COPIES(strncpy, (char *to, const char *from, size_t n), (to, from, n), copies_within(seen, to, from, n))
@@ -99,9 +106,11 @@ COPIES(stpncpy, (char *to, const char *from, size_t n), (to, from, n), copies_wi
 COPIES(strcat, (char *to, const char *from), (to, from), appends(seen, to, from, SIZE_MAX))
 COPIES(strncat, (char *to, const char *from, size_t n), (to, from, n), appends(seen, to, from, n))
 AFTER(char *, strdup, (const char *s), (s), READS(s, text(s)); if (r) WRITES(r, text(r)))
-AFTER(char *, strndup, (const char *s, size_t n), (s, n), READS(s, text_within(s, n)); if (r) WRITES(r, text(r)))
+AFTER(char *, strndup, (const char *s, size_t n), (s, n),
+      READS(s, text_within(s, n)); if (r) WRITES(r, text(r)))
 AFTER(char *, __strdup, (const char *s), (s), READS(s, text(s)); if (r) WRITES(r, text(r)))
-AFTER(char *, __strndup, (const char *s, size_t n), (s, n), READS(s, text_within(s, n)); if (r) WRITES(r, text(r)))
+AFTER(char *, __strndup, (const char *s, size_t n), (s, n),
+      READS(s, text_within(s, n)); if (r) WRITES(r, text(r)))
 AFTER(char *, strtok, (char *s, const char *set), (s, set), READS(set, text(set)); if (r) READS(r, text(r)))
 /* The byte after the piece becomes its end, unless it was the text's. */
 AFTER(char *, strtok_r, (char *s, const char *set, char **rest), (s, set, rest),
@@ -109,8 +118,8 @@ AFTER(char *, strtok_r, (char *s, const char *set, char **rest), (s, set, rest),
       if (r) READS(r, text(r));
       if (r && *rest == r + text(r)) WRITES(*rest - 1, 1))
 
-/* By their symbols, for a header may give the first of each pair the name of the second. Of a base that there isn't, nothing
-   is said of the end. */
+/* By their symbols, for a header may give the first of each pair the name of the second. Of a base that there
+   isn't, nothing is said of the end. */
 #define NUMBER(type, name) \
     type as_##name(const char *s, char **end, int base) __asm__(#name); \
     PUBLIC type as_##name(const char *s, char **end, int base) { \
@@ -132,13 +141,15 @@ NUMBERS(uintmax_t, strtoumax)
 
 AFTER(size_t, wcslen, (const wchar_t *s), (s), READS(s, wide(r + 1)))
 AFTER(size_t, wcsnlen, (const wchar_t *s, size_t n), (s, n), READS(s, wide(least(r + 1, n))))
-AFTER(wchar_t *, wcsdup, (const wchar_t *s), (s), READS(s, wide(wcslen(s) + 1)); if (r) WRITES(r, wide(wcslen(r) + 1)))
+AFTER(wchar_t *, wcsdup, (const wchar_t *s), (s),
+      READS(s, wide(wcslen(s) + 1)); if (r) WRITES(r, wide(wcslen(r) + 1)))
 AFTER(wchar_t *, wcscat, (wchar_t *to, const wchar_t *from), (to, from),
       size_t added = wcslen(from), before = wcslen(to) - added;
       READS(to, wide(before + 1)), READS(from, wide(added + 1)), WRITES(to + before, wide(added + 1)))
 AFTER(wchar_t *, wcsncat, (wchar_t *to, const wchar_t *from, size_t n), (to, from, n),
       size_t added = wcsnlen(from, n), before = wcslen(to) - added;
-      READS(to, wide(before + 1)), READS(from, wide(least(added + 1, n))), WRITES(to + before, wide(added + 1)))
+      READS(to, wide(before + 1)), READS(from, wide(least(added + 1, n))),
+      WRITES(to + before, wide(added + 1)))
 
 /* ---- memory ---- */
 AFTER(int, memcmp, (const void *p, const void *q, size_t n), (p, q, n), READS(p, n), READS(q, n))
@@ -159,15 +170,17 @@ BEFORE(void *, __mempcpy_chk, (void *to, const void *from, size_t n, size_t room
        READS(from, n), WRITES(to, n))
 BEFORE(void *, __memset_chk, (void *to, int c, size_t n, size_t room), (to, c, n, room), WRITES(to, n))
 
-/* Elements are moved between calls of a function that may give up the turn: so from the beginning on they are others. (bsearch
-   reads elements by that function alone.) */
+/* Elements are moved between calls of a function that may give up the turn: so from the beginning on they are
+   others. (bsearch reads elements by that function alone.) */
 static void sorts(uint64_t seen, void *p, size_t count, size_t size) {
     if (count < 2) return;
     READS(p, array(count, size));
     WRITES(p, array(count, size));
 }
-BEFORE(void, qsort, (void *p, size_t count, size_t size, __compar_fn_t order), (p, count, size, order), sorts(seen, p, count, size))
-BEFORE(void, qsort_r, (void *p, size_t count, size_t size, __compar_d_fn_t order, void *more), (p, count, size, order, more),
+BEFORE(void, qsort, (void *p, size_t count, size_t size, __compar_fn_t order), (p, count, size, order),
+       sorts(seen, p, count, size))
+BEFORE(void, qsort_r, (void *p, size_t count, size_t size, __compar_d_fn_t order, void *more),
+       (p, count, size, order, more),
        sorts(seen, p, count, size))
 
 /* ---- files: what goes out is read before, for the call may wait ---- */
@@ -179,8 +192,10 @@ BEFORE(int, fputc, (int c, FILE *f), (c, f), note_stream(OP_POST, f, seen))
 BEFORE(int, putc, (int c, FILE *f), (c, f), note_stream(OP_POST, f, seen))
 BEFORE(int, fflush, (FILE *f), (f), note_stream(OP_POST, f, seen))
 BEFORE(int, fclose, (FILE *f), (f), note_stream(OP_POST, f, seen))
-AFTER(size_t, fread, (void *p, size_t size, size_t n, FILE *f), (p, size, n, f), note_stream(OP_WAIT, f, seen); WRITES(p, array(size, r)))
-AFTER(char *, fgets, (char *s, int n, FILE *f), (s, n, f), note_stream(OP_WAIT, f, seen); if (r) WRITES(s, text(s)))
+AFTER(size_t, fread, (void *p, size_t size, size_t n, FILE *f), (p, size, n, f),
+      note_stream(OP_WAIT, f, seen); WRITES(p, array(size, r)))
+AFTER(char *, fgets, (char *s, int n, FILE *f), (s, n, f),
+      note_stream(OP_WAIT, f, seen); if (r) WRITES(s, text(s)))
 AFTER(int, fgetc, (FILE *f), (f), note_stream(OP_WAIT, f, seen))
 AFTER(int, getc, (FILE *f), (f), note_stream(OP_WAIT, f, seen))
 static void got_line(uint64_t seen, FILE *f, char **line, size_t *room, ssize_t length) {
@@ -191,8 +206,10 @@ static void got_line(uint64_t seen, FILE *f, char **line, size_t *room, ssize_t 
     WRITES(*line, length + 1);
 }
 AFTER(ssize_t, getline, (char **line, size_t *n, FILE *f), (line, n, f), got_line(seen, f, line, n, r))
-AFTER(ssize_t, getdelim, (char **line, size_t *n, int c, FILE *f), (line, n, c, f), got_line(seen, f, line, n, r))
-AFTER(ssize_t, __getdelim, (char **line, size_t *n, int c, FILE *f), (line, n, c, f), got_line(seen, f, line, n, r))
+AFTER(ssize_t, getdelim, (char **line, size_t *n, int c, FILE *f), (line, n, c, f),
+      got_line(seen, f, line, n, r))
+AFTER(ssize_t, __getdelim, (char **line, size_t *n, int c, FILE *f), (line, n, c, f),
+      got_line(seen, f, line, n, r))
 AFTER(ssize_t, getrandom, (void *p, size_t n, unsigned flags), (p, n, flags), if (r > 0) WRITES(p, r))
 
 /* ---- time: some results are in the library's own memory, the same for all threads ---- */
@@ -212,10 +229,14 @@ AFTER(time_t, mktime, (struct tm *p), (p), READS(p, sizeof *p), WRITES(p, sizeof
 
 /* ---- names: of files, users, machines ---- */
 static void gets_text(uint64_t seen, const char *s) { if (s) WRITES(s, text(s)); }
-static size_t address_bytes(int family) { return family == AF_INET6 ? sizeof(struct in6_addr) : sizeof(struct in_addr); }
+static size_t address_bytes(int family) {
+    return family == AF_INET6 ? sizeof(struct in6_addr) : sizeof(struct in_addr);
+}
 AFTER(char *, getcwd, (char *s, size_t n), (s, n), gets_text(seen, r))
-AFTER(char *, realpath, (const char *path, char *s), (path, s), if (r) READS(path, text(path)), gets_text(seen, r))
-AFTER(ssize_t, readlink, (const char *path, char *s, size_t n), (path, s, n), if (r > 0) READS(path, text(path)), WRITES(s, r))
+AFTER(char *, realpath, (const char *path, char *s), (path, s), if (r) READS(path, text(path)),
+      gets_text(seen, r))
+AFTER(ssize_t, readlink, (const char *path, char *s, size_t n), (path, s, n),
+      if (r > 0) READS(path, text(path)), WRITES(s, r))
 AFTER(ssize_t, readlinkat, (int f, const char *path, char *s, size_t n), (f, path, s, n),
       if (r > 0) READS(path, text(path)), WRITES(s, r))
 AFTER(char *, ttyname, (int f), (f), gets_text(seen, r))
@@ -223,7 +244,8 @@ AFTER(int, ttyname_r, (int f, char *s, size_t n), (f, s, n), if (!r) gets_text(s
 AFTER(char *, strerror_r, (int error, char *s, size_t n), (error, s, n), if (r == s && n) gets_text(seen, s))
 AFTER(int, gethostname, (char *s, size_t n), (s, n), if (!r) WRITES(s, text_within(s, n)))
 AFTER(int, uname, (struct utsname *p), (p), if (!r) WRITES(p, sizeof *p))
-AFTER(int, inet_aton, (const char *s, struct in_addr *p), (s, p), if (r) READS(s, text(s)), WRITES(p, sizeof *p))
+AFTER(int, inet_aton, (const char *s, struct in_addr *p), (s, p), if (r) READS(s, text(s)),
+      WRITES(p, sizeof *p))
 AFTER(int, inet_pton, (int family, const char *s, void *p), (family, s, p),
       if (r == 1) READS(s, text(s)), WRITES(p, address_bytes(family)))
 AFTER(const char *, inet_ntop, (int family, const void *p, char *s, socklen_t n), (family, p, s, n),

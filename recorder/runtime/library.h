@@ -1,17 +1,18 @@
-/* How the accesses of a function of the C library are recorded: as those of its caller, where that was compiled with
-   -fsanitize=thread.  They are measured outside of a hook, so memory that isn't there is a fault of the program's own. */
+/* How the accesses of a function of the C library are recorded: as those of its caller, where that was
+   compiled with -fsanitize=thread.  They are measured outside of a hook, so memory that isn't there is a
+   fault of the program's own. */
 #include "runtime.h"
 
 /* The caller, and then the thread has the turn; or 0 where nothing is to be recorded. */
 uint64_t begin_call(uint64_t caller);
-/* Yields by the list alone, for a thread may have slept in the call before.  Nothing of a null pointer, or of a range that can't
-   be there. */
+/* Yields by the list alone, for a thread may have slept in the call before.  Nothing of a null pointer, or of
+   a range that can't be there. */
 void note_range(uint64_t seen, enum operation operation, const volatile void *p, uint64_t bytes);
 #define READS(p, bytes) note_range(seen, OP_READ, p, bytes)
 #define WRITES(p, bytes) note_range(seen, OP_WRITE, p, bytes)
 
-/* What is sent to a descriptor comes before what is got from its other end, if this may be in the process; of a stream also what
-   stays in its buffer. */
+/* What is sent to a descriptor comes before what is got from its other end, if this may be in the process; of
+   a stream also what stays in its buffer. */
 void note_transfer(enum operation operation, int descriptor, uint64_t caller);
 static inline void note_stream(enum operation operation, FILE *f, uint64_t caller) {
     int saved = errno, descriptor = f ? fileno(f) : -1;
@@ -23,7 +24,8 @@ static inline void note_stream(enum operation operation, FILE *f, uint64_t calle
 static inline size_t text(const char *s) { return strlen(s) + 1; }
 static inline size_t text_within(const char *s, size_t n) { return least(strnlen(s, n) + 1, n); }
 
-/* A function whose accesses are known after it, by its result r.  It doesn't wait, so they are recorded where they are made. */
+/* A function whose accesses are known after it, by its result r.  It doesn't wait, so they are recorded where
+   they are made. */
 #define AFTER(type, name, parameters, arguments, ...) \
     type name parameters; \
     PUBLIC type name parameters { \

@@ -1,5 +1,5 @@
-/* Limits that a program sets on itself: they may end the recording and not the program, and nothing here counts in them. And
-   what else a program asks of the system by prctl. */
+/* Limits that a program sets on itself: they may end the recording and not the program, and nothing here
+   counts in them. And what else a program asks of the system by prctl. */
 #include "runtime.h"
 #include "cells.h"
 #include <linux/futex.h>
@@ -30,7 +30,9 @@ PUBLIC int mlockall(int flags) {
 static void will_limit(int resource, uint64_t addresses) {
     thread *t = resource == RLIMIT_AS && recording ? enter(NEVER_YIELD) : 0;
     if (!t) return;
-    if (!limit_record(addresses)) end_with("the program limits its address space (RLIMIT_AS), and the record takes more than a quarter of it");
+    if (!limit_record(addresses))
+        end_with("the program limits its address space (RLIMIT_AS), and the record takes more than a quarter "
+                 "of it");
     leave(t);
 }
 
@@ -38,12 +40,14 @@ PUBLIC int setrlimit(__rlimit_resource_t resource, const struct rlimit *limit) {
     will_limit(resource, limit->rlim_cur);
     return REAL(setrlimit)(resource, limit);
 }
-PUBLIC int prlimit(pid_t process, enum __rlimit_resource resource, const struct rlimit *limit, struct rlimit *old) {
+PUBLIC int prlimit(pid_t process, enum __rlimit_resource resource, const struct rlimit *limit,
+                   struct rlimit *old) {
     if (!process || process == getpid()) will_limit(resource, limit ? limit->rlim_cur : RLIM_INFINITY);
     return REAL(prlimit)(process, resource, limit, old);
 }
 PUBLIC int setrlimit64(__rlimit_resource_t, const struct rlimit64 *) __attribute__((alias("setrlimit")));
-PUBLIC int prlimit64(pid_t, enum __rlimit_resource, const struct rlimit64 *, struct rlimit64 *) __attribute__((alias("prlimit")));
+PUBLIC int prlimit64(pid_t, enum __rlimit_resource, const struct rlimit64 *,
+                     struct rlimit64 *) __attribute__((alias("prlimit")));
 
 /* ---- seccomp: a system call of ours that isn't allowed may kill the program ---- */
 static void will_limit_calls(void) { stop_recording("the program limits its system calls (seccomp)"); }
@@ -51,7 +55,8 @@ static void will_limit_calls(void) { stop_recording("the program limits its syst
 PUBLIC int prctl(int option, ...) {
     va_list more;
     va_start(more, option);
-    unsigned long a = va_arg(more, long), b = va_arg(more, long), c = va_arg(more, long), d = va_arg(more, long);
+    unsigned long a = va_arg(more, long), b = va_arg(more, long), c = va_arg(more, long),
+        d = va_arg(more, long);
     va_end(more);
     if (option == PR_SET_SECCOMP) will_limit_calls();
     int result = REAL(prctl)(option, a, b, c, d);
@@ -84,10 +89,12 @@ static int often_waits(long number, long second) {
     }
 }
 
-/* Who was woken, or found another word, has what was stored there: locks of code without hooks too are taken so. */
+/* Who was woken, or found another word, has what was stored there: locks of code without hooks too are
+   taken so. */
 static void note_waited(const void *word, long result, uint64_t caller) {
     uint64_t inside = sizeof(int) | __ATOMIC_ACQUIRE << ATOMIC_SIZE_BITS;
-    if (others && (!result || result == -EAGAIN)) note_bytes(YIELDS_BY_LIST, OP_ATOMIC_LOAD, word, inside, caller);
+    if (others && (!result || result == -EAGAIN))
+        note_bytes(YIELDS_BY_LIST, OP_ATOMIC_LOAD, word, inside, caller);
 }
 
 PUBLIC long syscall(long number, ...) {
@@ -100,7 +107,8 @@ PUBLIC long syscall(long number, ...) {
     if (often_waits(number, b)) let_others_run();
     register long r10 __asm__("r10") = d, r8 __asm__("r8") = e, r9 __asm__("r9") = f;
     __asm__ volatile("syscall" : "=a"(result)
-                     : "a"(number), "D"(a), "S"(b), "d"(c), "r"(r10), "r"(r8), "r"(r9) : "rcx", "r11", "memory");
+                     : "a"(number), "D"(a), "S"(b), "d"(c), "r"(r10), "r"(r8), "r"(r9) : "rcx", "r11",
+                     "memory");
     if (number == SYS_futex && is_waiting_futex(b)) note_waited((void *)a, result, CALLER);
     if (result >= 0 || result < -4095) return result;
     errno = -result;

@@ -28,7 +28,8 @@
     }
 #define LOCKS(name, operation, quick, parameters, arguments) \
     TAKES(name, operation, m, r == EBUSY, REAL(quick)(m), !r || r == EOWNERDEAD, parameters, arguments)
-#define TRIES_LOCK(name, operation, type) TRIES(name, operation, m, EBUSY, !r || r == EOWNERDEAD, (type *m), (m))
+#define TRIES_LOCK(name, operation, type) \
+    TRIES(name, operation, m, EBUSY, !r || r == EOWNERDEAD, (type *m), (m))
 
 /* ---- locks ---- */
 /* All calls that take one, of which `try` never waits. */
@@ -72,7 +73,8 @@ GIVES_BY(void, funlockfile, OP_UNLOCK, f, 0, DONE(REAL(funlockfile)(f)), (FILE *
 
 /* ---- conditions: the mutex is given up and taken again; a signal orders nothing by itself ---- */
 #define WAITS(name, parameters, arguments) \
-    WAITS_BY(int, name, OP_LOCK, OP_UNLOCK, REAL(pthread_mutex_unlock)((void *)m), REAL(pthread_mutex_trylock)((void *)m) != EBUSY, \
+    WAITS_BY(int, name, OP_LOCK, OP_UNLOCK, REAL(pthread_mutex_unlock)((void *)m), \
+        REAL(pthread_mutex_trylock)((void *)m) != EBUSY, \
              REAL(pthread_mutex_lock)((void *)m), REAL(name) arguments, r, parameters)
 WAITS(pthread_cond_wait, (pthread_cond_t *c, pthread_mutex_t *m), (c, m))
 WAITS(pthread_cond_timedwait, (pthread_cond_t *c, pthread_mutex_t *m, deadline d), (c, m, d))
@@ -111,7 +113,8 @@ PUBLIC int pthread_barrier_wait(pthread_barrier_t *b) {
     return r;
 }
 
-/* What was done by here comes before what the next thread does that takes it: like a store and a load of an atomic. */
+/* What was done by here comes before what the next thread does that takes it: like a store and a load of
+   an atomic. */
 static void note_atomic(enum operation operation, const void *p, uint64_t size, uint64_t caller) {
     int order = operation == OP_ATOMIC_LOAD ? __ATOMIC_ACQUIRE : __ATOMIC_RELEASE;
     if (others) note_bytes(MAY_YIELD, operation, p, size | order << ATOMIC_SIZE_BITS, caller);
@@ -134,12 +137,16 @@ static int do_once(pthread_once_t *flag, void (*function)(void), uint64_t caller
     note_atomic(OP_ATOMIC_LOAD, flag, sizeof *flag, caller);
     return error;
 }
-PUBLIC int pthread_once(pthread_once_t *flag, void (*function)(void)) { return do_once(flag, function, CALLER); }
-PUBLIC void call_once(once_flag *flag, void (*function)(void)) { do_once((pthread_once_t *)flag, function, CALLER); }
+PUBLIC int pthread_once(pthread_once_t *flag, void (*function)(void)) {
+    return do_once(flag, function, CALLER);
+}
+PUBLIC void call_once(once_flag *flag, void (*function)(void)) {
+    do_once((pthread_once_t *)flag, function, CALLER);
+}
 
 /* of C++ local statics: like an atomic byte */
-/* Without a C++ library behind this one (it is linked into the program, or came by dlopen) it is done here: the first
-   byte says that the variable is ready, the second that somebody makes it. */
+/* Without a C++ library behind this one (it is linked into the program, or came by dlopen) it is done here:
+   the first byte says that the variable is ready, the second that somebody makes it. */
 int __cxa_guard_acquire(char *), __cxa_guard_release(char *), __cxa_guard_abort(char *);
 static int plain_abort(char *byte) {
     __atomic_store_n(byte + 1, 0, __ATOMIC_RELEASE);
@@ -165,7 +172,8 @@ PUBLIC int __cxa_guard_acquire(char *byte) {
     note_atomic(OP_ATOMIC_LOAD, byte, 1, CALLER);
     return r;
 }
-/* What was done for the variable until here comes before what the next thread does for it, also where it threw. */
+/* What was done for the variable until here comes before what the next thread does for it, also where
+   it threw. */
 #define LEAVES_GUARD(name, plain) \
     PUBLIC int name(char *byte) { \
         note_atomic(OP_ATOMIC_STORE, byte, 1, CALLER); \
@@ -174,14 +182,16 @@ PUBLIC int __cxa_guard_acquire(char *byte) {
 LEAVES_GUARD(__cxa_guard_release, plain_release)
 LEAVES_GUARD(__cxa_guard_abort, plain_abort)
 
-/* of C++: a promise's value that is there when its thread ends. The C++ library stores that in code without hooks; so it is recorded
-   right before. Its own words are std::__at_thread_exit_elt, a weak_ptr to the state, and in this the status. */
+/* of C++: a promise's value that is there when its thread ends. The C++ library stores that in code without
+   hooks; so it is recorded right before. Its own words are std::__at_thread_exit_elt, a weak_ptr to the
+   state, and in this the status. */
 typedef struct { void *next; void (*function)(void *); char *state, *count; } value_at_end;
 enum { STATUS = 16, USERS = 8 };
 static void (*sets_status)(void *);
 static void comes_to_its_end(void *value_) {
     value_at_end *value = value_;
-    if (*(int *)(value->count + USERS) > 0) note_atomic(OP_ATOMIC_STORE, value->state + STATUS, sizeof(int), CALLER);
+    if (*(int *)(value->count + USERS) > 0)
+        note_atomic(OP_ATOMIC_STORE, value->state + STATUS, sizeof(int), CALLER);
     sets_status(value);
 }
 void _ZNSt13__future_base13_State_baseV211_Make_ready6_M_setEv(value_at_end *);

@@ -6,10 +6,11 @@ void *__libc_malloc(size_t), *__libc_calloc(size_t, size_t), *__libc_realloc(voi
 void *__libc_memalign(size_t, size_t);
 void __libc_free(void *);
 
-/* ---- a new block is new variables; a free is a write. A thread may have slept in the call before; one that code without hooks calls
-   may have a lock that nobody sees, so there the turn isn't given up ---- */
+/* ---- a new block is new variables; a free is a write. A thread may have slept in the call before; one that
+   code without hooks calls may have a lock that nobody sees, so there the turn isn't given up ---- */
 void *allocated(void *p, size_t size, uint64_t caller) {
-    if (p) note_bytes(instrumented(caller) ? MAY_YIELD : YIELDS_BY_LIST, OP_ALLOC, p, size ? size : 1, caller);
+    if (p)
+        note_bytes(instrumented(caller) ? MAY_YIELD : YIELDS_BY_LIST, OP_ALLOC, p, size ? size : 1, caller);
     return p;
 }
 
@@ -32,7 +33,9 @@ static size_t bytes_freed(void *p) {
 }
 
 /* What uninstrumented code frees, it may have ordered by means that nobody sees. */
-static int is_free_seen(const void *p, uint64_t caller) { return p && others && recording && instrumented(caller); }
+static int is_free_seen(const void *p, uint64_t caller) {
+    return p && others && recording && instrumented(caller);
+}
 
 static void will_free(void *p, uint64_t caller) {
     if (is_free_seen(p, caller)) note_bytes(MAY_YIELD, OP_FREE, p, bytes_freed(p), caller);
@@ -49,7 +52,8 @@ PUBLIC void free(void *p) {
     __libc_free(p);
 }
 
-/* One that fails frees nothing. Where the turn was lost in it, another thread may have the old memory by now. */
+/* One that fails frees nothing. Where the turn was lost in it, another thread may have the old memory
+   by now. */
 PUBLIC void *realloc(void *p, size_t n) {
     thread *t = is_free_seen(p, CALLER) ? enter(MAY_YIELD) : 0;
     size_t bytes = t ? bytes_freed(p) : 0;
@@ -78,7 +82,8 @@ PUBLIC void *mmap64(void *, size_t, int, int, int, off_t) __attribute__((alias("
 PUBLIC void *mremap(void *old, size_t old_size, size_t size, int flags, ...) {
     va_list more;
     va_start(more, flags);
-    char *p = (char *)syscall(SYS_mremap, old, old_size, size, flags, flags & MREMAP_FIXED ? va_arg(more, void *) : 0);
+    char *p = (char *)syscall(SYS_mremap, old, old_size, size, flags,
+                              flags & MREMAP_FIXED ? va_arg(more, void *) : 0);
     va_end(more);
     size_t kept = p == old ? old_size : 0;
     if (p != MAP_FAILED && size > kept) allocated(p + kept, size - kept, CALLER);
@@ -88,7 +93,8 @@ PUBLIC void *mremap(void *old, size_t old_size, size_t size, int flags, ...) {
 /* ---- C++: a block of `new` is from where `delete` gives it back ---- */
 /* If the program has forms of its own, all others are the C++ library's, which makes them of these. */
 static int has_own_forms(void) {
-    static const char *const forms[] = {"_Znwm", "_Znam", "_ZdlPv", "_ZdaPv", "_ZnwmSt11align_val_t", "_ZdlPvSt11align_val_t"};
+    static const char *const forms[] = {"_Znwm", "_Znam", "_ZdlPv", "_ZdaPv", "_ZnwmSt11align_val_t",
+                                        "_ZdlPvSt11align_val_t"};
     static _Atomic char known;         /* 1: none, 2: some */
     if (known) return known == 2;
     int some = 0;
@@ -97,8 +103,9 @@ static int has_own_forms(void) {
     return some;
 }
 
-/* In a form that may not throw, `nothrow` is not null; one for greater alignment has that before it. The C++ library's is
-   called if there is no memory, to throw; it may be linked into the program, so that there is no way to throw. */
+/* In a form that may not throw, `nothrow` is not null; one for greater alignment has that before it. The C++
+   library's is called if there is no memory, to throw; it may be linked into the program, so that there is no
+   way to throw. */
 typedef void *(*new_function)(size_t, size_t, const void *);
 
 static void *called_new(new_function real, size_t n, size_t align, const void *nothrow, uint64_t caller) {
@@ -111,7 +118,8 @@ static void *called_new(new_function real, size_t n, size_t align, const void *n
 
 #define NEW(name, parameters, align, nothrow) \
     void *name parameters; \
-    PUBLIC void *name parameters { return called_new((new_function)(void *)REAL_IF_ANY(name), n, align, nothrow, CALLER); }
+    PUBLIC void *name parameters { return called_new((new_function)(void *)REAL_IF_ANY(name), n, align, \
+        nothrow, CALLER); }
 NEW(_Znwm, (size_t n), 0, 0)
 NEW(_Znam, (size_t n), 0, 0)
 NEW(_ZnwmRKSt9nothrow_t, (size_t n, const void *nothrow), 0, nothrow)
@@ -129,8 +137,10 @@ NEW(_ZnamSt11align_val_tRKSt9nothrow_t, (size_t n, size_t align, const void *not
         will_free(p, CALLER); \
         __libc_free(p); \
     }
-DELETES(_ZdlPv) DELETES(_ZdaPv) DELETES(_ZdlPvm) DELETES(_ZdaPvm) DELETES(_ZdlPvRKSt9nothrow_t) DELETES(_ZdaPvRKSt9nothrow_t)
-DELETES(_ZdlPvSt11align_val_t) DELETES(_ZdaPvSt11align_val_t) DELETES(_ZdlPvmSt11align_val_t) DELETES(_ZdaPvmSt11align_val_t)
+DELETES(_ZdlPv) DELETES(_ZdaPv) DELETES(_ZdlPvm) DELETES(_ZdaPvm) DELETES(_ZdlPvRKSt9nothrow_t) DELETES(
+    _ZdaPvRKSt9nothrow_t)
+DELETES(_ZdlPvSt11align_val_t) DELETES(_ZdaPvSt11align_val_t) DELETES(_ZdlPvmSt11align_val_t) DELETES(
+    _ZdaPvmSt11align_val_t)
 DELETES(_ZdlPvSt11align_val_tRKSt9nothrow_t) DELETES(_ZdaPvSt11align_val_tRKSt9nothrow_t)
 
 /* ---- ranges: never yields, for this may be the tail of a structure's copy ---- */

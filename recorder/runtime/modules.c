@@ -1,4 +1,5 @@
-/* The modules of code in the program: which are instrumented, and the functions that the wrappers here stand for. */
+/* The modules of code in the program: which are instrumented, and the functions that the wrappers here
+   stand for. */
 #include "runtime.h"
 #include <dlfcn.h>
 #include <link.h>
@@ -7,8 +8,10 @@ enum { MAX_MODULES = 256 };
 struct module modules[MAX_MODULES];
 int module_count;
 
-/* Libraries whose order is recorded at their calls, or told by archer: what they use within is no object of the program's. */
-static const char *const own_orders[] = {"/libomp.", "/libiomp5.", "/libQt5Core.", "/libQt6Core.", "/libglib-2."};
+/* Libraries whose order is recorded at their calls, or told by archer: what they use within is no object of
+   the program's. */
+static const char *const own_orders[] = {"/libomp.", "/libiomp5.", "/libQt5Core.", "/libQt6Core.",
+                                         "/libglib-2."};
 enum { OWN_ORDERS = sizeof own_orders / sizeof *own_orders };
 static struct module with_own_order[OWN_ORDERS];
 
@@ -28,7 +31,8 @@ static void note_module(struct dl_phdr_info *info, struct module m) {
     note_text(line);
 }
 
-/* In C is what asks for nothing of C++ and unwinds no stack, nor uses liburcu, whose headers have functions deep in each other. */
+/* In C is what asks for nothing of C++ and unwinds no stack, nor uses liburcu, whose headers have functions
+   deep in each other. */
 enum language { WITHOUT_HOOKS, IN_OTHERS, IN_C };
 static enum language told_by(const void *strings, uint64_t size) {
     static const char *const others[] = {"\0_Z", "\0__gxx_", "\0_Unwind_", "\0urcu_"};
@@ -37,7 +41,8 @@ static enum language told_by(const void *strings, uint64_t size) {
     return IN_C;
 }
 
-/* Compiled with -fsanitize=thread is what imports the hooks.  (Who calls __tsan_init says less: it may be a jump.) */
+/* Compiled with -fsanitize=thread is what imports the hooks.  (Who calls __tsan_init says less: it may be
+   a jump.) */
 static enum language language_of(struct dl_phdr_info *info, const ElfW(Phdr) *dynamic) {
     static const char name[] = "\0__tsan_init";
     uint64_t strings = 0, size = 0;
@@ -46,7 +51,8 @@ static enum language language_of(struct dl_phdr_info *info, const ElfW(Phdr) *dy
         if (d->d_tag == DT_STRSZ) size = d->d_un.d_val;
     }
     if (strings < info->dlpi_addr) strings += info->dlpi_addr;
-    return strings && memmem((void *)strings, size, name, sizeof name) ? told_by((void *)strings, size) : WITHOUT_HOOKS;
+    return strings && memmem((void *)strings, size, name, sizeof name) ? told_by((void *)strings, size)
+        : WITHOUT_HOOKS;
 }
 
 static struct module bounds_of(const struct dl_phdr_info *info) {
@@ -72,7 +78,8 @@ static int see_module(struct dl_phdr_info *info, size_t size, void *unused) {
     const char *slash = strrchr(info->dlpi_name, '/');
     for (int i = 0; slash && i < OWN_ORDERS; i++)
         if (!strncmp(slash, own_orders[i], strlen(own_orders[i]))) with_own_order[i] = m;
-    if (language && (own < m.low || own >= m.high) && !instrumented(m.low) && module_count < MAX_MODULES) modules[module_count++] = m;
+    if (language && (own < m.low || own >= m.high) && !instrumented(m.low) && module_count < MAX_MODULES)
+        modules[module_count++] = m;
     return 0;
 }
 
@@ -82,12 +89,14 @@ static int begins_with(const char *name, const char *begin) {
     return !*begin;
 }
 
-/* What it allocates for that is no hook of the program's: whether it is looked up hangs on the order of threads. */
+/* What it allocates for that is no hook of the program's: whether it is looked up hangs on the order
+   of threads. */
 void *next_symbol(const char *name) {
     thread *t = self && !self->inside ? self : 0;
     void *p = 0;
     if (t) begin_inside(t);
-    if (begins_with(name, "pthread_cond_")) p = dlvsym(RTLD_NEXT, name, "GLIBC_2.3.2");   /* not the older interface */
+    /* not the older interface */
+    if (begins_with(name, "pthread_cond_")) p = dlvsym(RTLD_NEXT, name, "GLIBC_2.3.2");
     if (!p) p = dlsym(RTLD_NEXT, name);
     if (t) end_inside(t);
     return p;
@@ -98,15 +107,19 @@ static uint64_t module_with(void *p) {
     return p && dladdr(p, &info) ? (uint64_t)info.dli_fbase : 0;
 }
 
-int program_has(const char *name) { return module_with(dlsym(RTLD_DEFAULT, name)) != module_with((void *)program_has); }
+int program_has(const char *name) {
+    return module_with(dlsym(RTLD_DEFAULT, name)) != module_with((void *)program_has);
+}
 
-/* ---- functions of libraries that the program may have by dlopen, so that they aren't behind this one ---- */
+/* ---- functions of libraries that the program may have by dlopen, so that they aren't behind this
+   one ---- */
 typedef struct { struct { struct module bounds; const char *name; } at[MAX_MODULES]; int count; } loaded;
 
 static int add_loaded(struct dl_phdr_info *info, size_t size, void *loaded_) {
     loaded *all = loaded_;
     struct module m = bounds_of(info);
-    if (m.high && all->count < MAX_MODULES) all->at[all->count++] = (__typeof__(*all->at)){m, info->dlpi_name};
+    if (m.high && all->count < MAX_MODULES)
+        all->at[all->count++] = (__typeof__(*all->at)){m, info->dlpi_name};
     return 0;
 }
 
@@ -134,13 +147,15 @@ void *find_forwarded(struct forwarded *which) {
     _exit(127);                        /* as the loader does */
 }
 
-extern struct forwarded __start_forwarded[] __attribute__((visibility("hidden"))), __stop_forwarded[] __attribute__((visibility("hidden")));
+extern struct forwarded __start_forwarded[] __attribute__((visibility("hidden"))),
+    __stop_forwarded[] __attribute__((visibility("hidden")));
 __attribute__((constructor(101))) static void find_all_forwarded(void) {
     for (struct forwarded *f = __start_forwarded; f < __stop_forwarded; f++) function_if_any(f);
 }
 
 int is_behind_the_c_library(void) {
-    static const char *const names[] = {"pthread_create", "pthread_join", "pthread_mutex_lock", "thrd_create"};
+    static const char *const names[] = {"pthread_create", "pthread_join", "pthread_mutex_lock",
+                                        "thrd_create"};
     uint64_t c_library = module_with(dlsym(RTLD_DEFAULT, "gnu_get_libc_version"));
     for (unsigned i = 0; i < sizeof names / sizeof *names; i++)
         if (c_library && module_with(dlsym(RTLD_DEFAULT, names[i])) == c_library) return 1;
@@ -155,7 +170,8 @@ static int count_modules(struct dl_phdr_info *info, size_t size, void *count) {
 void __tsan_init(void);
 static unsigned long long seen_modules;
 
-PUBLIC void __tsan_init(void) {        /* called by each instrumented file's constructor, so also after a dlopen */
+/* called by each instrumented file's constructor, so also after a dlopen */
+PUBLIC void __tsan_init(void) {
     unsigned long long count = 0;
     dl_iterate_phdr(count_modules, &count);
     if (count == seen_modules) return;
@@ -163,15 +179,19 @@ PUBLIC void __tsan_init(void) {        /* called by each instrumented file's con
     dl_iterate_phdr(see_module, 0);
 }
 
-/* ---- modules that go: no other one comes to their addresses, for the record names code and variables by these ---- */
+/* ---- modules that go: no other one comes to their addresses, for the record names code and variables by
+   these ---- */
 enum { MOST_GONE = 200 };              /* then others may: a table of modules has an end */
-static int begins_at(struct dl_phdr_info *info, size_t size, void *low) { return bounds_of(info).low == *(uint64_t *)low; }
+static int begins_at(struct dl_phdr_info *info, size_t size, void *low) {
+    return bounds_of(info).low == *(uint64_t *)low;
+}
 
 static void keep_addresses(struct module gone) {
     static _Atomic int kept;
     uint64_t page = getpagesize(), from = gone.low & -page, bytes = ((gone.high + page - 1) & -page) - from;
     if (atomic_fetch_add(&kept, 1) >= MOST_GONE) return;
-    long at = syscall(SYS_mmap, from, bytes, PROT_NONE, MAP_PRIVATE | MAP_ANONYMOUS | MAP_NORESERVE | MAP_FIXED_NOREPLACE, -1, 0L);
+    long at = syscall(SYS_mmap, from, bytes, PROT_NONE,
+                      MAP_PRIVATE | MAP_ANONYMOUS | MAP_NORESERVE | MAP_FIXED_NOREPLACE, -1, 0L);
     if (at > 0 && (uint64_t)at != from) syscall(SYS_munmap, at, bytes);     /* an old kernel */
 }
 
@@ -186,7 +206,8 @@ PUBLIC int dlclose(void *handle) {
     return error;
 }
 
-void note_modules(void) {              /* once there is a record; gcc's own library has __tsan_init called before that */
+/* once there is a record; gcc's own library has __tsan_init called before that */
+void note_modules(void) {
     seen_modules = 0;
     __tsan_init();
 }

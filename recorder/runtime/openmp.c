@@ -1,11 +1,13 @@
-/* gcc's OpenMP. Its library hands over by system calls that nobody sees; so what orders threads is told here, at the calls
-   that the compiler makes into it: a region's begin and end, barriers, critical and ordered sections, locks and tasks. */
+/* gcc's OpenMP. Its library hands over by system calls that nobody sees; so what orders threads is told here,
+   at the calls that the compiler makes into it: a region's begin and end, barriers, critical and ordered
+   sections, locks and tasks. */
 #include "runtime.h"
 #include <stdbool.h>
 
 typedef char object[16];               /* its address is what it is known by */
 typedef void (*function)(void *);
-typedef struct team { object begin, end, barrier, ordered, tasks, depend; function function; void *data; uint64_t caller; } team;
+typedef struct team { object begin, end, barrier, ordered, tasks, depend; function function; void *data;
+uint64_t caller; } team;
 typedef struct task {
     _Atomic int users;                 /* itself while it runs, and each child */
     struct task *parent;
@@ -17,7 +19,8 @@ typedef struct task {
     object begin, children;
 } task;
 
-static __thread task *now;             /* the task that this thread is in; of a region a task for each thread */
+/* the task that this thread is in; of a region a task for each thread */
+static __thread task *now;
 
 static void leave_task(task *t) {
     while (t && atomic_fetch_sub(&t->users, 1) == 1) {
@@ -69,12 +72,16 @@ static void end_region(team *m) {
     }
 #define REGION(name, parameters, arguments) REGION_BY(void, name, DONE(REAL(name) arguments), parameters)
 #define LOOP(name) \
-    REGION(name, (function f, void *data, unsigned n, long a, long b, long i, long c, unsigned k), (run_region, m, n, a, b, i, c, k))
+    REGION(name, (function f, void *data, unsigned n, long a, long b, long i, long c, unsigned k), \
+        (run_region, m, n, a, b, i, c, k))
 #define RUNTIME_LOOP(name) \
-    REGION(name, (function f, void *data, unsigned n, long a, long b, long i, unsigned k), (run_region, m, n, a, b, i, k))
+    REGION(name, (function f, void *data, unsigned n, long a, long b, long i, unsigned k), (run_region, m, \
+        n, a, b, i, k))
 REGION(GOMP_parallel, (function f, void *data, unsigned n, unsigned k), (run_region, m, n, k))
-REGION(GOMP_parallel_sections, (function f, void *data, unsigned n, unsigned c, unsigned k), (run_region, m, n, c, k))
-REGION_BY(unsigned, GOMP_parallel_reductions, REAL(GOMP_parallel_reductions)(run_region, m, n, k), (function f, void *data, unsigned n, unsigned k))
+REGION(GOMP_parallel_sections, (function f, void *data, unsigned n, unsigned c, unsigned k),
+       (run_region, m, n, c, k))
+REGION_BY(unsigned, GOMP_parallel_reductions, REAL(GOMP_parallel_reductions)(run_region, m, n, k),
+          (function f, void *data, unsigned n, unsigned k))
 LOOP(GOMP_parallel_loop_static)
 LOOP(GOMP_parallel_loop_dynamic)
 LOOP(GOMP_parallel_loop_guided)
@@ -106,7 +113,8 @@ static void depart(uint64_t caller) {
 #define BARRIER(name) BARRIER_BY(void, name, DONE(REAL(name)()), (void))
 #define CANCEL_BARRIER(name) BARRIER_BY(bool, name, REAL(name)(), (void))
 BARRIER(GOMP_barrier) BARRIER(GOMP_loop_end) BARRIER(GOMP_sections_end)
-CANCEL_BARRIER(GOMP_barrier_cancel) CANCEL_BARRIER(GOMP_loop_end_cancel) CANCEL_BARRIER(GOMP_sections_end_cancel)
+CANCEL_BARRIER(GOMP_barrier_cancel) CANCEL_BARRIER(GOMP_loop_end_cancel) CANCEL_BARRIER(
+    GOMP_sections_end_cancel)
 
 /* The thread that gets null does the work and gives its data to the others, which wait. */
 PUBLIC void *GOMP_single_copy_start(void) {
@@ -182,7 +190,8 @@ static task *new_task(function f, void *data, void (*copy)(void *, void *), long
     return t;
 }
 
-PUBLIC void GOMP_task(function f, void *data, void (*copy)(void *, void *), long size, long align, bool deferred, unsigned flags,
+PUBLIC void GOMP_task(function f, void *data, void (*copy)(void *, void *), long size, long align,
+                      bool deferred, unsigned flags,
                       void **depend, int priority, void *detach) {
     if (!now) {                        /* outside a region it runs at once */
         REAL(GOMP_task)(f, data, copy, size, align, deferred, flags, depend, priority, detach);
@@ -209,7 +218,8 @@ WAITS_FOR_TASKS(GOMP_taskgroup_end, (void), (), now->team->tasks)
 /* ---- what isn't seen: each is said once ---- */
 static void tell_of(_Atomic int *told, const char *what) {
     if (recording && !atomic_exchange(told, 1))
-        tell("shb recorder: the program uses OpenMP's %s, of which not all is recorded: races may be false, or missed\n", what);
+        tell("shb recorder: the program uses OpenMP's %s, of which not all is recorded: races may be false, "
+             "or missed\n", what);
 }
 
 typedef void (*copy_function)(void *, void *);
@@ -219,11 +229,17 @@ typedef void (*copy_function)(void *, void *);
         tell_of(&told, what); \
         REAL(name) arguments; \
     }
-UNSEEN("taskloop", GOMP_taskloop, (function f, void *data, copy_function copy, long size, long align, unsigned flags, unsigned long n, int priority,
+UNSEEN("taskloop", GOMP_taskloop,
+       (function f, void *data, copy_function copy, long size, long align, unsigned flags, unsigned long n,
+        int priority,
        long from, long to, long step), (f, data, copy, size, align, flags, n, priority, from, to, step))
 UNSEEN("doacross loops", GOMP_doacross_post, (long *counts), (counts))
-UNSEEN("target regions", GOMP_target, (int device, function f, const void *unused, size_t count, void **addresses, size_t *sizes,
+UNSEEN("target regions", GOMP_target,
+       (int device, function f, const void *unused, size_t count, void **addresses, size_t *sizes,
        unsigned char *kinds), (device, f, unused, count, addresses, sizes, kinds))
-UNSEEN("target regions", GOMP_target_ext, (int device, function f, size_t count, void **addresses, size_t *sizes, unsigned short *kinds,
-       unsigned flags, void **depend, void **arguments), (device, f, count, addresses, sizes, kinds, flags, depend, arguments))
-UNSEEN("teams", GOMP_teams_reg, (function f, void *data, unsigned teams, unsigned most, unsigned flags), (f, data, teams, most, flags))
+UNSEEN("target regions", GOMP_target_ext,
+       (int device, function f, size_t count, void **addresses, size_t *sizes, unsigned short *kinds,
+       unsigned flags, void **depend, void **arguments),
+       (device, f, count, addresses, sizes, kinds, flags, depend, arguments))
+UNSEEN("teams", GOMP_teams_reg, (function f, void *data, unsigned teams, unsigned most, unsigned flags),
+       (f, data, teams, most, flags))

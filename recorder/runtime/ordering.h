@@ -1,12 +1,13 @@
-/* The shapes of the calls that order threads: each is recorded and passed on. A call that takes something (a lock, a token) is
-   recorded after it, one that gives something before it; a call that may wait does so without the turn. `real` is the call itself, and r
-   what it returns; if it returns nothing, `real` returns a number beside. */
+/* The shapes of the calls that order threads: each is recorded and passed on. A call that takes something (a
+   lock, a token) is recorded after it, one that gives something before it; a call that may wait does so
+   without the turn. `real` is the call itself, and r what it returns; if it returns nothing, `real` returns a
+   number beside. */
 #pragma once
 #include "runtime.h"
 
 enum { MOST_TRIES = 8 };
-/* A call that may sleep in a replay, where the list has it: with the turn. Handlers of signals run in it, also for those that came before
-   in the hook, for it may be them that it waits for. */
+/* A call that may sleep in a replay, where the list has it: with the turn. Handlers of signals run in it,
+   also for those that came before in the hook, for it may be them that it waits for. */
 #define SLEEPING(t, call) ({ \
     end_inside(t); \
     __typeof__(call) result_ = (call); \
@@ -14,8 +15,8 @@ enum { MOST_TRIES = 8 };
     end_quick(t); \
     result_; \
 })
-/* It may wait; recorded after it, if it was done. The quick form is tried first, for it needs no hand-over. In a replay it is
-   busy where it was then; else the one that has it may be about to give it. */
+/* It may wait; recorded after it, if it was done. The quick form is tried first, for it needs no hand-over.
+   In a replay it is busy where it was then; else the one that has it may be about to give it. */
 #define TAKES_BY(type, name, operation, object, real, busy, quick, done, parameters) \
     PUBLIC type name parameters { \
         thread *t = enter(MAY_YIELD); \
@@ -65,7 +66,8 @@ enum { MOST_TRIES = 8 };
         return (type)r; \
     }
 
-/* A wait without the lock that was given up for it, which is recorded as taken again after it, also if the wait was cancelled. */
+/* A wait without the lock that was given up for it, which is recorded as taken again after it, also if the
+   wait was cancelled. */
 struct waking { thread *t; void *lock; enum operation taken; uint64_t caller; int unusual; };
 static inline void has_woken(void *waking_) {
     struct waking *waking = waking_;
@@ -86,8 +88,9 @@ static inline void has_woken(void *waking_) {
     pthread_cleanup_pop(1); \
     r; \
 })
-/* A wait on the condition c without the lock m, by a call that returns an error, r, or 0. In a replay it wakes when the list says so, as a thread
-   may that nobody woke, and takes the lock with the turn. Where it had no more time it has none left either: that is waited for. */
+/* A wait on the condition c without the lock m, by a call that returns an error, r, or 0. In a replay it
+   wakes when the list says so, as a thread may that nobody woke, and takes the lock with the turn. Where it
+   had no more time it has none left either: that is waited for. */
 #define WAITS_BY(type, name, taken, released, give, try, take, error, result, parameters) \
     PUBLIC type name parameters { \
         thread *t = enter(MAY_YIELD); \

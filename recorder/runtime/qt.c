@@ -1,16 +1,20 @@
-/* The locks, semaphores, conditions and threads of Qt 5 and 6, by the names that C++ gives their functions. Of Qt 6 code that has hooks
-   takes a QMutex in lines of its own, and tells of it as of a lock that the program makes itself (annotations.c). */
+/* The locks, semaphores, conditions and threads of Qt 5 and 6, by the names that C++ gives their functions.
+   Of Qt 6 code that has hooks takes a QMutex in lines of its own, and tells of it as of a lock that the
+   program makes itself (annotations.c). */
 #include "libraries.h"
 #include <stdbool.h>
 
 typedef struct { int64_t time; uint32_t more, type; } deadline_timer;
 #define NO_TIME (deadline_timer){0}
 
-#define LOCK(name, operation, quick, done) TAKES_BY(void, name, operation, m, DONE(REAL(name)(m)), r, !(quick), done, (void *m))
+#define LOCK(name, operation, quick, done) \
+    TAKES_BY(void, name, operation, m, DONE(REAL(name)(m)), r, !(quick), done, (void *m))
 #define TRY(name, operation, done) TRIES_BY(bool, name, operation, m, REAL(name)(m), 0, done, (void *m))
-#define TRY_FOR(name, operation, done) TAKES_BY(bool, name, operation, m, REAL(name)(m, ms), !r && ms, REAL(name)(m, 0), done, (void *m, int ms))
+#define TRY_FOR(name, operation, done) \
+    TAKES_BY(bool, name, operation, m, REAL(name)(m, ms), !r && ms, REAL(name)(m, 0), done, (void *m, int ms))
 #define TRY_UNTIL(name, operation, done) \
-    TAKES_BY(bool, name, operation, m, REAL(name)(m, end), !r, REAL(name)(m, NO_TIME), done, (void *m, deadline_timer end))
+    TAKES_BY(bool, name, operation, m, REAL(name)(m, end), !r, REAL(name)(m, NO_TIME), done, (void *m, \
+        deadline_timer end))
 
 /* ---- QMutex, which in Qt 5 is a QRecursiveMutex as well ---- */
 TRY_FOR(_ZN6QMutex7tryLockEi, OP_LOCK, r)
@@ -20,10 +24,14 @@ TRY_FOR(_ZN15QRecursiveMutex7tryLockEi, OP_LOCK, r)
 TRY_UNTIL(_ZN15QRecursiveMutex7tryLockE14QDeadlineTimer, OP_LOCK, r)
 UNLOCKS(_ZN15QRecursiveMutex6unlockEv, OP_UNLOCK)
 
-/* What lines of a header call where the lock is taken, or somebody waits for it. They have hooks, so the lock's word is an atomic. */
-READS_WORD(void, _ZN11QBasicMutex12lockInternalEv, m, DONE(REAL(_ZN11QBasicMutex12lockInternalEv)(m)), 1, (void *m))
-READS_WORD(bool, _ZN11QBasicMutex12lockInternalEi, m, REAL(_ZN11QBasicMutex12lockInternalEi)(m, ms), r, (void *m, int ms))
-READS_WORD(bool, _ZN11QBasicMutex12lockInternalE14QDeadlineTimer, m, REAL(_ZN11QBasicMutex12lockInternalE14QDeadlineTimer)(m, end), r,
+/* What lines of a header call where the lock is taken, or somebody waits for it. They have hooks, so the
+   lock's word is an atomic. */
+READS_WORD(void, _ZN11QBasicMutex12lockInternalEv, m, DONE(REAL(_ZN11QBasicMutex12lockInternalEv)(m)), 1,
+           (void *m))
+READS_WORD(bool, _ZN11QBasicMutex12lockInternalEi, m, REAL(_ZN11QBasicMutex12lockInternalEi)(m, ms), r,
+           (void *m, int ms))
+READS_WORD(bool, _ZN11QBasicMutex12lockInternalE14QDeadlineTimer, m,
+           REAL(_ZN11QBasicMutex12lockInternalE14QDeadlineTimer)(m, end), r,
            (void *m, deadline_timer end))
 WRITES_WORD(_ZN11QBasicMutex14unlockInternalEv, m, (void *m), (m))
 
@@ -40,18 +48,22 @@ TRY_FOR(_ZN14QReadWriteLock15tryLockForWriteEi, OP_WRITE_LOCK, r && takes_to_wri
 TRY_UNTIL(_ZN14QReadWriteLock14tryLockForReadE14QDeadlineTimer, OP_READ_LOCK, r)
 TRY_UNTIL(_ZN14QReadWriteLock15tryLockForWriteE14QDeadlineTimer, OP_WRITE_LOCK, r && takes_to_write(m))
 LOCK(_ZN14QReadWriteLock11lockForReadEv, OP_READ_LOCK, REAL(_ZN14QReadWriteLock14tryLockForReadEv)(m), 1)
-LOCK(_ZN14QReadWriteLock12lockForWriteEv, OP_WRITE_LOCK, REAL(_ZN14QReadWriteLock15tryLockForWriteEv)(m), takes_to_write(m))
+LOCK(_ZN14QReadWriteLock12lockForWriteEv, OP_WRITE_LOCK, REAL(_ZN14QReadWriteLock15tryLockForWriteEv)(m),
+     takes_to_write(m))
 static void gives(void *m) { if (written == m) written = 0; }
 GIVES_BY(void, _ZN14QReadWriteLock6unlockEv, OP_RW_UNLOCK, m, 0,
          DONE((gives(m), REAL(_ZN14QReadWriteLock6unlockEv)(m))), (void *m))
 
 /* ---- QSemaphore ---- */
-TRIES_BY(bool, _ZN10QSemaphore10tryAcquireEi, OP_WAIT, s, REAL(_ZN10QSemaphore10tryAcquireEi)(s, n), 0, r, (void *s, int n))
+TRIES_BY(bool, _ZN10QSemaphore10tryAcquireEi, OP_WAIT, s, REAL(_ZN10QSemaphore10tryAcquireEi)(s, n), 0, r,
+         (void *s, int n))
 TAKES_BY(void, _ZN10QSemaphore7acquireEi, OP_WAIT, s, DONE(REAL(_ZN10QSemaphore7acquireEi)(s, n)), r,
          !REAL(_ZN10QSemaphore10tryAcquireEi)(s, n), 1, (void *s, int n))
-TAKES_BY(bool, _ZN10QSemaphore10tryAcquireEii, OP_WAIT, s, REAL(_ZN10QSemaphore10tryAcquireEii)(s, n, ms), !r && ms,
+TAKES_BY(bool, _ZN10QSemaphore10tryAcquireEii, OP_WAIT, s, REAL(_ZN10QSemaphore10tryAcquireEii)(s, n, ms),
+         !r && ms,
          REAL(_ZN10QSemaphore10tryAcquireEi)(s, n), r, (void *s, int n, int ms))
-TAKES_BY(bool, _ZN10QSemaphore10tryAcquireEi14QDeadlineTimer, OP_WAIT, s, REAL(_ZN10QSemaphore10tryAcquireEi14QDeadlineTimer)(s, n, end), !r,
+TAKES_BY(bool, _ZN10QSemaphore10tryAcquireEi14QDeadlineTimer, OP_WAIT, s,
+         REAL(_ZN10QSemaphore10tryAcquireEi14QDeadlineTimer)(s, n, end), !r,
          REAL(_ZN10QSemaphore10tryAcquireEi)(s, n), r, (void *s, int n, deadline_timer end))
 POSTS(_ZN10QSemaphore7releaseEi, s, (void *s, int n), (s, n))
 
@@ -74,7 +86,8 @@ static void take_mutex(void *m) {
 static void give_mutex(void *m) {
     uintptr_t taken = 1;
     if (is_qt_5()) REAL(_ZN6QMutex6unlockEv)(m);
-    else if (!__atomic_compare_exchange_n((uintptr_t *)m, &taken, 0, 0, __ATOMIC_RELEASE, __ATOMIC_RELAXED)) REAL(_ZN11QBasicMutex14unlockInternalEv)(m);
+    else if (!__atomic_compare_exchange_n((uintptr_t *)m, &taken, 0, 0, __ATOMIC_RELEASE, __ATOMIC_RELAXED))
+        REAL(_ZN11QBasicMutex14unlockInternalEv)(m);
 }
 #define WAITS(name, more, arguments) \
     WAITS_FOR(bool, name, is_qt_5() ? OP_LOCK : OP_WRITE_LOCK, is_qt_5() ? OP_UNLOCK : OP_RW_UNLOCK, \
@@ -83,7 +96,8 @@ WAITS(_ZN14QWaitCondition4waitEP6QMutexm, unsigned long ms, (c, m, ms))
 WAITS(_ZN14QWaitCondition4waitEP6QMutex14QDeadlineTimer, deadline_timer end, (c, m, end))
 
 static int try_both_ways(void *m) {
-    return written == m ? REAL(_ZN14QReadWriteLock15tryLockForWriteEv)(m) : REAL(_ZN14QReadWriteLock14tryLockForReadEv)(m);
+    return written == m ? REAL(_ZN14QReadWriteLock15tryLockForWriteEv)(m)
+        : REAL(_ZN14QReadWriteLock14tryLockForReadEv)(m);
 }
 static void take_both_ways(void *m) {
     if (written == m) REAL(_ZN14QReadWriteLock12lockForWriteEv)(m);
@@ -91,7 +105,8 @@ static void take_both_ways(void *m) {
 }
 #define WAITS_BOTH_WAYS(name, more, arguments) \
     WAITS_FOR(bool, name, written == m ? OP_WRITE_LOCK : OP_READ_LOCK, OP_RW_UNLOCK, \
-             REAL(_ZN14QReadWriteLock6unlockEv)(m), try_both_ways(m), take_both_ways(m), REAL(name) arguments, (void *c, void *m, more))
+             REAL(_ZN14QReadWriteLock6unlockEv)(m), try_both_ways(m), take_both_ways(m), \
+                 REAL(name) arguments, (void *c, void *m, more))
 WAITS_BOTH_WAYS(_ZN14QWaitCondition4waitEP14QReadWriteLockm, unsigned long ms, (c, m, ms))
 WAITS_BOTH_WAYS(_ZN14QWaitCondition4waitEP14QReadWriteLock14QDeadlineTimer, deadline_timer end, (c, m, end))
 WAKES(_ZN14QWaitCondition7wakeOneEv)
@@ -123,5 +138,6 @@ static void see_end(thread *t, void *q, uint64_t caller) {
         return r; \
     }
 SEES_END(_ZN7QThread4waitEm, REAL(_ZN7QThread4waitEm)(q, ms), (void *q, unsigned long ms))
-SEES_END(_ZN7QThread4waitE14QDeadlineTimer, REAL(_ZN7QThread4waitE14QDeadlineTimer)(q, end), (void *q, deadline_timer end))
+SEES_END(_ZN7QThread4waitE14QDeadlineTimer, REAL(_ZN7QThread4waitE14QDeadlineTimer)(q, end),
+         (void *q, deadline_timer end))
 SEES_END(_ZNK7QThread10isFinishedEv, REAL(_ZNK7QThread10isFinishedEv)(q), (void *q))

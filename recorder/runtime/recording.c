@@ -1,23 +1,27 @@
-/* The record: it is mapped, and its file grows in steps.  Whatever fails ends the recording and not the program.
-   Of a process made by fork the record stays in memory until it starts a thread, or has no room there.
-   Of a program that runs on it is in segments: each is a record of its own, and the oldest are deleted. */
+/* The record: it is mapped, and its file grows in steps.  Whatever fails ends the recording and not the
+   program. Of a process made by fork the record stays in memory until it starts a thread, or has no room
+   there. Of a program that runs on it is in segments: each is a record of its own, and the oldest are
+   deleted. */
 #include "runtime.h"
 #include "cells.h"
 #include <sys/resource.h>
 #include <sys/sysinfo.h>
 
-#define STEP_BYTES (4 << 20)           /* the file grows by so much; the record of a child has so much in memory */
+/* the file grows by so much; the record of a child has so much in memory */
+#define STEP_BYTES (4 << 20)
 
 int stall_seconds;
 static char *header;
 static struct record *records;
 static uint64_t written, most_records;
-static uint64_t forgotten, sum;        /* so many of them needn't be in memory; the sum of their entries, for the header */
+/* so many of them needn't be in memory; the sum of their entries, for the header */
+static uint64_t forgotten, sum;
 static uint32_t contexts;              /* of the record so far */
 uint64_t changes = 1;
 static _Atomic uint64_t room;          /* records that the file has disk space for */
 static int in_memory;                  /* it has no file yet */
-static uint64_t last_position;         /* that of the last access that was held back, or of the first where there are more records since */
+/* that of the last access that was held back, or of the first where there are more records since */
+static uint64_t last_position;
 static uint64_t most_cells;
 static char command[COMMAND_BYTES];    /* its line of the header */
 uint64_t segment_records;
@@ -30,15 +34,18 @@ static int is_limit_given;             /* by SHB_RECORDS */
 static uint64_t reserve;               /* else: bytes of the disk that are left to others */
 static _Atomic int is_half_told;
 
-/* How many records, where SHB_RECORDS doesn't say: a position counts no more, and the converter has memory for them, 8 bytes for each
-   and 20 for what they access. They are mapped, which takes no more than a quarter of the addresses that the program may have. */
+/* How many records, where SHB_RECORDS doesn't say: a position counts no more, and the converter has memory
+   for them, 8 bytes for each and 20 for what they access. They are mapped, which takes no more than a quarter
+   of the addresses that the program may have. */
 enum { BYTES_TO_CONVERT = 28, PARTS_OF_ADDRESSES = 4 };
 static uint64_t most_by_default(void) {
     struct sysinfo machine;
     struct rlimit addresses;
     uint64_t most = 1ull << (POSITION_BITS - ORDER_BITS);
-    if (!sysinfo(&machine)) most = least(most, (uint64_t)machine.totalram * machine.mem_unit / BYTES_TO_CONVERT);
-    if (!getrlimit(RLIMIT_AS, &addresses)) most = least(most, addresses.rlim_cur / PARTS_OF_ADDRESSES / sizeof *records);
+    if (!sysinfo(&machine))
+        most = least(most, (uint64_t)machine.totalram * machine.mem_unit / BYTES_TO_CONVERT);
+    if (!getrlimit(RLIMIT_AS, &addresses))
+        most = least(most, addresses.rlim_cur / PARTS_OF_ADDRESSES / sizeof *records);
     return most;
 }
 
@@ -51,9 +58,11 @@ static void keep_reserve(void) {
 /* With so many records and so much space on the disk. */
 static void tell_half(uint64_t have, uint64_t space) {
     if (!have || have >= most_records) return;
-    uint64_t used = have * sizeof *records, left = least(most_records * sizeof *records - used, space - reserve);
+    uint64_t used = have * sizeof *records,
+        left = least(most_records * sizeof *records - used, space - reserve);
     if (used < left || atomic_exchange(&is_half_told, 1)) return;
-    tell("shb recorder: half of the room for the record is used: it has %lu MB, and ends after %lu MB more (SHB_RECORDS, disk space)\n",
+    tell("shb recorder: half of the room for the record is used: it has %lu MB, and ends after %lu MB more "
+         "(SHB_RECORDS, disk space)\n",
          used >> 20, left >> 20);
 }
 
@@ -67,7 +76,8 @@ static int add_step(uint64_t have) {
 
 /* What is written is in the file, and read no more: else it would count as the program's memory. */
 static void forget_written(void) {
-    const uint64_t page = getpagesize(), from = (uint64_t)&records[forgotten] & -page, end = (uint64_t)&records[written] & -page;
+    const uint64_t page = getpagesize(), from = (uint64_t)&records[forgotten] & -page,
+        end = (uint64_t)&records[written] & -page;
     for (; forgotten < written; forgotten++) sum += entry_sum(forgotten, records[forgotten]);
     if (!in_memory && end > from) madvise((void *)from, end - from, MADV_DONTNEED);
 }
@@ -88,7 +98,8 @@ static void grow(void) {
 }
 
 /* ---- segments: of a program that runs on ---- */
-enum { MOST_SEGMENTS = 8, SEGMENT_SECONDS = 10 };            /* that are kept, besides the one that is written */
+/* that are kept, besides the one that is written */
+enum { MOST_SEGMENTS = 8, SEGMENT_SECONDS = 10 };
 
 time_t seconds_now(void) {
     struct timespec time;
@@ -102,10 +113,14 @@ static void begin_counting(uint64_t before) {
     segment_until = seconds_now() + SEGMENT_SECONDS;
 }
 
-int is_segment_full(void) { return written >= segment_end || (written > segment_end - segment_records && seconds_now() >= segment_until); }
+int is_segment_full(void) {
+    return written >= segment_end
+        || (written > segment_end - segment_records && seconds_now() >= segment_until);
+}
 
 /* ---- records ---- */
-static struct record record_of(const thread *t, enum operation operation, uint64_t where, uint64_t size, uint64_t caller) {
+static struct record record_of(const thread *t, enum operation operation, uint64_t where, uint64_t size,
+                               uint64_t caller) {
     return (struct record){(where & LOW_48_BITS) | (uint64_t)t->number << 48,
                            (caller & LOW_48_BITS) | (uint64_t)operation << 48 | size << 54};
 }
@@ -135,7 +150,9 @@ static void tell_context(thread *t, uint32_t depth, int is_exact) {
     note_told(t, now);
 }
 
-static int has_depth_inside(enum operation operation, uint64_t size) { return is_plain(operation) && size <= 16 && !(size & (size - 1)); }
+static int has_depth_inside(enum operation operation, uint64_t size) {
+    return is_plain(operation) && size <= 16 && !(size & (size - 1));
+}
 
 /* What stands in the place of the size, with the depth where that is known by it. */
 static uint64_t inside_of(const thread *t, enum operation operation, uint64_t size) {
@@ -148,7 +165,8 @@ static uint64_t inside_of(const thread *t, enum operation operation, uint64_t si
 
 /* With the turn. */
 static int has_room(uint64_t count) {
-    return written + count <= most_records && written + count <= atomic_load_explicit(&room, memory_order_relaxed);
+    return written + count <= most_records && written
+        + count <= atomic_load_explicit(&room, memory_order_relaxed);
 }
 
 /* While a thread works: afterwards there is room for so many records, or it returns 0. */
@@ -181,8 +199,8 @@ int begin_work(thread *t) {
     return recording;
 }
 
-/* Is it a read that the thread made before, with nothing but reads of any thread in between?  Then it got the same value, by
-   the same order. Where there are cells most such reads are held back. */
+/* Is it a read that the thread made before, with nothing but reads of any thread in between?  Then it got the
+   same value, by the same order. Where there are cells most such reads are held back. */
 static int is_repeated(thread *t, struct record r) {
     const struct read now = {r, changes, context_at(t, recordable_depth(t))};
     for (int i = 0; i < RECENT_READS; i++)
@@ -194,7 +212,8 @@ static int is_repeated(thread *t, struct record r) {
 /* ---- what is held back (cells.c) ---- */
 void put_late(struct record r, uint64_t word) {
     if (!make_room(2)) return;
-    records[written++] = (struct record){word & (IS_REPEATED | POSITIONS), word >> CONTEXT_AT | (uint64_t)OP_LATE << 48};
+    records[written++] = (struct record){word & (IS_REPEATED | POSITIONS),
+                                         word >> CONTEXT_AT | (uint64_t)OP_LATE << 48};
     records[written++] = r;
 }
 
@@ -208,7 +227,9 @@ static uint64_t positions_left(void) {
 /* That of an access that is made now, with its context. */
 static uint64_t position_now(const thread *t) {
     int is_known = is_numbered(t->in) && t->kind != NO_KIND;
-    return is_known && positions_left() ? (uint64_t)t->in->number << CONTEXT_AT | IS_REPEATED | (last_position + 1) : NO_POSITION;
+    return is_known
+        && positions_left() ? (uint64_t)t->in->number << CONTEXT_AT | IS_REPEATED | (last_position + 1)
+            : NO_POSITION;
 }
 
 /* A quick hook puts nothing. Each of its steps is a position. */
@@ -238,13 +259,16 @@ static int is_held_back(thread *t, enum operation operation, struct record r, ui
     return held;
 }
 
-static void put_now(thread *t, enum operation operation, const volatile void *address, uint64_t size, uint64_t caller) {
+static void put_now(thread *t, enum operation operation, const volatile void *address, uint64_t size,
+                    uint64_t caller) {
     add_contexts(t);
     uint64_t inside = inside_of(t, operation, size);
     changes += !only_reads(operation);
     struct record r = record_of(t, operation, (uint64_t)address, inside, caller);
-    if (is_held_back(t, operation, r, bytes_of(operation, size)) || is_repeated(t, r) || !make_room(ROOM)) return;
-    tell_context(t, recordable_depth(t), inside >> LOGARITHM_BITS == DEPTH_BEFORE || !has_depth_inside(operation, size));
+    if (is_held_back(t, operation, r, bytes_of(operation, size)) || is_repeated(t, r) || !make_room(ROOM))
+        return;
+    tell_context(t, recordable_depth(t), inside >> LOGARITHM_BITS == DEPTH_BEFORE
+                 || !has_depth_inside(operation, size));
     uint64_t way = is_plain(operation) ? 0 : way_to(t, t->depth, caller);
     if (way) add(t, OP_WAY, 0, 0, way);
     records[written++] = r;
@@ -262,7 +286,8 @@ void put(thread *t, enum operation operation, const volatile void *address, uint
 }
 
 /* The record of another thread, which makes no more. */
-void put_of(thread *t, const thread *ended, enum operation operation, const volatile void *object, uint64_t caller) {
+void put_of(thread *t, const thread *ended, enum operation operation, const volatile void *object,
+            uint64_t caller) {
     if (begin_work(t) && make_room(1)) add(ended, operation, (uint64_t)object, 0, caller);
     t->works = 0;
 }
@@ -282,7 +307,8 @@ void put_name(thread *t, thread *named, const char *name) {
     t->works = 0;
 }
 
-void note_bytes(enum yields yields, enum operation operation, const volatile void *p, uint64_t size, uint64_t caller) {
+void note_bytes(enum yields yields, enum operation operation, const volatile void *p, uint64_t size,
+                uint64_t caller) {
     int saved = errno;
     if (is_plain(operation) && hold_range(operation, (uint64_t)p, size, caller)) return;
     thread *t = enter_access(yields);
@@ -293,7 +319,9 @@ void note_bytes(enum yields yields, enum operation operation, const volatile voi
     errno = saved;
 }
 
-void note(enum operation operation, const volatile void *object, uint64_t caller) { note_bytes(MAY_YIELD, operation, object, 0, caller); }
+void note(enum operation operation, const volatile void *object, uint64_t caller) {
+    note_bytes(MAY_YIELD, operation, object, 0, caller);
+}
 
 /* ---- begin and end ---- */
 /* How the recording ended, for the converter; "" takes it back. */
@@ -305,8 +333,8 @@ static _Atomic int has_strangers;
 
 void note_stranger(void) {
     if (!recording || atomic_exchange(&has_strangers, 1)) return;
-    tell("shb recorder: the program has threads whose begin isn't seen, as the C library calls functions in (SIGEV_THREAD), or "
-         "by a pthread_create that was looked up in it (dlsym): their races are missed\n");
+    tell("shb recorder: the program has threads whose begin isn't seen, as the C library calls functions in "
+         "(SIGEV_THREAD), or by a pthread_create that was looked up in it (dlsym): their races are missed\n");
 }
 
 const char *own_end(void) { return has_strangers ? "threads ran whose begin isn't seen" : ENDED_WHOLE; }
@@ -386,7 +414,8 @@ static void add_state_of(thread *t) {
     if (*t->name) add_name(t);
 }
 
-/* What a segment begins with: the threads, and the locks that they hold. It has room for all that there can be. */
+/* What a segment begins with: the threads, and the locks that they hold. It has room for all that there
+   can be. */
 static int add_state(void) {
     enum { RECORDS_OF_THREAD = 4 };
     uint64_t have = in_memory ? most_records : 0, most = THREAD_NUMBERS * RECORDS_OF_THREAD + held_count;
@@ -399,11 +428,13 @@ static int add_state(void) {
     return 1;
 }
 
-/* The next segment's file takes the place of this one's, which is whole from there on: where it can't be had, the recording ends in this one. */
+/* The next segment's file takes the place of this one's, which is whole from there on: where it can't be had,
+   the recording ends in this one. */
 static int change_file(void) {
     cut_file(RECORD, HEADER_BYTES + written * sizeof *records);
     if (segment > MOST_SEGMENTS) drop_segment(segment - MOST_SEGMENTS);
-    int before = take_file(), done = open_file(command, HEADER_BYTES + STEP_BYTES, segment + 1) && write_file(header, ENDED_AT);
+    int before = take_file(), done = open_file(command, HEADER_BYTES + STEP_BYTES, segment + 1)
+        && write_file(header, ENDED_AT);
     if (done) note_whole();
     syscall(SYS_close, before);
     return done && use_map(map_file(RECORD, header, map_bytes()));
@@ -460,8 +491,8 @@ int move_to_file(void) {
     return 0;
 }
 
-/* With the turn nobody else writes, so the file can be cut.  Without it (the recording had ended before) a last record
-   may still be on its way: then the zeros after the records stay. */
+/* With the turn nobody else writes, so the file can be cut.  Without it (the recording had ended before) a
+   last record may still be on its way: then the zeros after the records stay. */
 void close_recording(void) {
     thread *t = enter(NEVER_YIELD);
     end_turns();
@@ -471,7 +502,8 @@ void close_recording(void) {
     leave(t);
 }
 
-/* With the turn: the program may have so many addresses from here on. Is what has disk space a part of them that is small enough? */
+/* With the turn: the program may have so many addresses from here on. Is what has disk space a part of them
+   that is small enough? */
 int limit_record(uint64_t addresses) {
     uint64_t page = getpagesize(), before = map_bytes(), most = addresses / PARTS_OF_ADDRESSES / page * page;
     most_cells = least(most_cells, addresses / PARTS_OF_ADDRESSES);
@@ -490,8 +522,8 @@ void unlock_record(void) {
     unlock_contexts();
 }
 
-/* After the recording has ended: gives the room back, but for a page or two in which another thread's last record may be
-   on its way. */
+/* After the recording has ended: gives the room back, but for a page or two in which another thread's last
+   record may be on its way. */
 void give_back_room(void) {
     uint64_t page = getpagesize(), used = (HEADER_BYTES / page + written * sizeof *records / page + 2) * page;
     if (header && used < map_bytes()) munmap(header + used, map_bytes() - used);

@@ -1,19 +1,21 @@
-/* The order of turns: a list of them that is written beside the record, and one that the process is to follow.
+/* The order of turns: a list of them that is written beside the record, and one that the process
+   is to follow.
 
-   A *step* of a thread is where it may lose the turn: a hook, before its record; a call that may block; a lock that is
-   busy; the end of another thread's start, in which it may have slept.  Each thread counts its own, and what of its accesses
-   is recorded changes nothing of them.  An entry of the list has a thread's number and how many steps it had made when
-   another thread got the turn; a turn that a thread gave and got back is one with that before.  Who gets a lock that several
-   want is a matter of microseconds: so where a thread didn't get one at once, or a wait ended otherwise than most do, a
-   further entry has its steps so far and UNUSUAL.
+   A *step* of a thread is where it may lose the turn: a hook, before its record; a call that may block; a
+   lock that is busy; the end of another thread's start, in which it may have slept.  Each thread counts its
+   own, and what of its accesses is recorded changes nothing of them.  An entry of the list has a thread's
+   number and how many steps it had made when another thread got the turn; a turn that a thread gave and got
+   back is one with that before.  Who gets a lock that several want is a matter of microseconds: so where a
+   thread didn't get one at once, or a wait ended otherwise than most do, a further entry has its steps so far
+   and UNUSUAL.
 
-   PATH.turns has HEADER bytes of text (TURNS_MAGIC, "command WORD WORD..", and where the recording ended "whole COUNT SUM",
-   hexadecimal, by which a copy that was cut or changed is known), and the entries of 8 bytes, until one of zeros or the
-   file's end.  A process made by fork has none.
+   PATH.turns has HEADER bytes of text (TURNS_MAGIC, "command WORD WORD..", and where the recording ended
+   "whole COUNT SUM", hexadecimal, by which a copy that was cut or changed is known), and the entries of 8
+   bytes, until one of zeros or the file's end.  A process made by fork has none.
 
-   In a replay only the thread of the next entry gets the turn, and loses it after as many steps.  What it waits for is no
-   lock and no signal but that turn, at whose begin it takes the lock.  The replay is left where that thread doesn't come:
-   then a wait for a condition ends, which may be at any time. */
+   In a replay only the thread of the next entry gets the turn, and loses it after as many steps.  What it
+   waits for is no lock and no signal but that turn, at whose begin it takes the lock.  The replay is left
+   where that thread doesn't come: then a wait for a condition ends, which may be at any time. */
 #include "runtime.h"
 #include <fcntl.h>
 #include <sys/stat.h>
@@ -22,7 +24,9 @@
 enum { HEADER = 4096, STEP_BYTES = 1 << 20, MOST_BYTES = 128 << 20, FEW = 1 << 15 };
 
 #define UNUSUAL (1ull << 47)
-static uint64_t entry_of(const thread *t, uint64_t steps) { return (uint64_t)t->number << 48 | (steps & (UNUSUAL - 1)); }
+static uint64_t entry_of(const thread *t, uint64_t steps) {
+    return (uint64_t)t->number << 48 | (steps & (UNUSUAL - 1));
+}
 static uint64_t thread_of_entry(uint64_t entry) { return entry >> 48; }
 static uint64_t steps_of_entry(uint64_t entry) { return entry & (UNUSUAL - 1); }
 
@@ -50,7 +54,8 @@ void open_list(void) {
 /* By a thread without the turn; it may sleep. */
 void extend_list(void) {
     uint64_t from = HEADER + atomic_load(&room) * sizeof *turns;
-    if (!turns || count + FEW < atomic_load(&room) || from >= MOST_BYTES || atomic_exchange(&is_growing, 1)) return;
+    if (!turns || count + FEW < atomic_load(&room) || from >= MOST_BYTES || atomic_exchange(&is_growing, 1))
+        return;
     if (add_space(TURNS, from, STEP_BYTES)) atomic_fetch_add(&room, STEP_BYTES / sizeof *turns);
     atomic_store(&is_growing, 0);
 }
@@ -82,12 +87,15 @@ void unlock_list(void) { if (header) munlock(header, MOST_BYTES); }
 
 /* ---- the list that is followed ---- */
 volatile int is_replaying;
-static const uint64_t *due;            /* the next entry is due[at]: the end of a turn that has begun or not, or what is unusual in it */
+/* the next entry is due[at]: the end of a turn that has begun or not, or what is unusual in it */
+static const uint64_t *due;
 static uint64_t due_count;
 static volatile uint64_t at;
 static uint64_t due_turns, done_turns;
 
-static int reaches(const thread *t, uint64_t entry) { return !(entry & UNUSUAL) && steps_in_turns(t) >= steps_of_entry(entry); }
+static int reaches(const thread *t, uint64_t entry) {
+    return !(entry & UNUSUAL) && steps_in_turns(t) >= steps_of_entry(entry);
+}
 
 /* For the reader of the record's header. */
 static void note_number(const char *format, uint64_t number) {
@@ -98,7 +106,8 @@ static void note_number(const char *format, uint64_t number) {
 
 /* Also where all of it was followed: then it says nothing. */
 void end_replay(const char *why) {
-    done_turns += at < due_count && runs && runs->number == thread_of_entry(due[at]) && reaches(runs, due[at]);
+    done_turns += at < due_count && runs && runs->number == thread_of_entry(due[at])
+        && reaches(runs, due[at]);
     note_number("replayed %lu\n", done_turns);
     is_replaying = 0;
     if (done_turns < due_turns)
@@ -144,7 +153,8 @@ void end_turn(thread *t) {
 
 /* Was it so when the list was written?  What is told of steps before was not met. */
 int next_is_unusual(const thread *t) {
-    while (is_replaying && due[at] & UNUSUAL && due_thread() == t->number && steps_of_entry(due[at]) <= t->steps) {
+    while (is_replaying && due[at] & UNUSUAL && due_thread() == t->number
+           && steps_of_entry(due[at]) <= t->steps) {
         int is_this = steps_of_entry(due[at]) == t->steps;
         move_on();
         if (is_this) return 1;

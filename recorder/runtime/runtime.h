@@ -1,4 +1,5 @@
-/* What the parts of the run-time library share, with the headers that most of them need. Each includes it first. */
+/* What the parts of the run-time library share, with the headers that most of them need. Each includes
+   it first. */
 #pragma once
 #define _GNU_SOURCE
 #include <errno.h>
@@ -19,16 +20,19 @@
 #pragma GCC visibility push(hidden)
 #define PUBLIC __attribute__((visibility("default")))
 #define CALLER ((uint64_t)__builtin_return_address(0))
-#define KEEP_ORDER() __asm__ volatile("" ::: "memory")          /* for the compiler; the processor stores in this order, and loads too */
+/* for the compiler; the processor stores in this order, and loads too */
+#define KEEP_ORDER() __asm__ volatile("" ::: "memory")
 
-/* The functions that a thread is in are a node of a tree (calls.c): the innermost one, and the node of those further out. */
+/* The functions that a thread is in are a node of a tree (calls.c): the innermost one, and the node of those
+   further out. */
 typedef struct context {
     struct context *outer;
     uint64_t caller, function, way;    /* way: as way_to returns it */
     uint64_t extent;                   /* how many bytes its stack pointer is below the one further out */
     uint64_t kind;                     /* as cells.h has it in a use */
     uint32_t number, depth;            /* in the record; how many functions it has */
-    uint32_t inner, after, next;       /* what was entered from here last, from the same one after this; in its bucket */
+    /* what was entered from here last, from the same one after this; in its bucket */
+    uint32_t inner, after, next;
 } context;
 #define NOT_RECORDED (~0u)             /* in the place of a number */
 
@@ -47,18 +51,22 @@ typedef struct thread {
     uint32_t serial;                   /* no other's ever, from 1 */
     volatile char inside;              /* the recorder: hooks met now are not recorded */
     volatile char deferred;            /* a signal came meanwhile and waits for the end of the hook */
-    volatile char asks;                /* a hook has begun that isn't quick, and has yet to ask for the turn */
-    volatile char works;               /* on the record, or for a new thread, where it may sleep: then nobody takes the turn over */
+    /* a hook has begun that isn't quick, and has yet to ask for the turn */
+    volatile char asks;
+    /* on the record, or for a new thread, where it may sleep: then nobody takes the turn over */
+    volatile char works;
     uint64_t steps;                    /* replay.c: so far */
     uint64_t limit;                    /* hooks may be quick (hold.h) until it made so many steps; or 0 */
-    uint64_t base;                     /* then its steps and this are the position of the next access that is held back, and IS_REPEATED */
+    /* then its steps and this are the position of the next access that is held back, and IS_REPEATED */
+    uint64_t base;
     uint64_t last;                     /* its last hook: a read as read_at, a write as write_at, or 0 */
     const context *in;                 /* the functions that it is in, the outermost MOST_FRAMES */
     uint64_t kind;                     /* of that */
     uint64_t reader;                   /* as cells.h has it in a use */
     uint32_t number;                   /* in the order of creation, from 0; or that of one that is over */
     uint32_t depth;                    /* how many functions it is in */
-    uint64_t kept;                     /* those of its steps that were in its turns, but for quick hooks since */
+    /* those of its steps that were in its turns, but for quick hooks since */
+    uint64_t kept;
     uint64_t quick_from;               /* since so many steps its hooks may be quick */
     pid_t system_id;
     pthread_t handle;
@@ -67,7 +75,8 @@ typedef struct thread {
     char may_be_held;                  /* there */
     int quantum;                       /* hooks until it gives the turn to a waiter */
     int spins;                         /* how often in a row its last hook left the value as it was */
-    struct read { struct record r; uint64_t changes; const context *context; } recent[RECENT_READS];     /* its last ones in the record */
+    /* its last ones in the record */
+    struct read { struct record r; uint64_t changes; const context *context; } recent[RECENT_READS];
     unsigned next_recent;
     char is_over;                      /* joined, or detached and gone */
     char ends;                         /* its ways to an end without a join (way_to_end) */
@@ -75,7 +84,8 @@ typedef struct thread {
     int cancel_state;                  /* when its hook ends */
     uint64_t range;                    /* how many bytes its last record accesses */
     char name[2 * NAME_PIECE];         /* that the program gave it, and zeros */
-    char idles;                        /* in a replay: it waits for what others are to do, so it is in no hurry */
+    /* in a replay: it waits for what others are to do, so it is in no hurry */
+    char idles;
     struct thread *next_ended;
     int exit_rounds;                   /* of destructors of thread-specific data */
     void *(*function)(void *);         /* what it runs; or of a C11 thread the next */
@@ -88,7 +98,9 @@ typedef struct thread {
     frame *frames, own_frames[];       /* MOST_FRAMES, the outermost first; the second for all but fibers */
 } thread;
 
-static inline uint64_t function_of(const thread *t) { return t->c11_function ? (uint64_t)t->c11_function : (uint64_t)t->function; }
+static inline uint64_t function_of(const thread *t) {
+    return t->c11_function ? (uint64_t)t->c11_function : (uint64_t)t->function;
+}
 
 typedef const struct timespec *deadline;
 
@@ -98,7 +110,8 @@ static inline size_t least(size_t n, size_t m) { return n < m ? n : m; }
 static inline int is_write(uint64_t last) { return (last >> 48 & 3) == OP_WRITE; }
 static inline void end_copy(thread *t) { if (is_write(t->last)) t->last = 0; }
 
-/* The steps that were in its turns, for any thread: asked for behind its steps, so where a hook was counted in these it is seen that it asks. */
+/* The steps that were in its turns, for any thread: asked for behind its steps, so where a hook was counted
+   in these it is seen that it asks. */
 static inline uint64_t steps_in_turns(const thread *t) {
     uint64_t steps = t->steps;
     KEEP_ORDER();
@@ -110,9 +123,11 @@ enum yields { NEVER_YIELD, YIELDS_BY_LIST, MAY_YIELD };      /* by the list alon
 extern __thread thread *self __attribute__((tls_model("initial-exec")));
 extern volatile int recording;
 void begin_turns(int slice, uint64_t seed);                  /* with 0 slices of many lengths */
-void restart_turns(thread *t);         /* in a process made by fork, where there is t alone; it has the turn */
+/* in a process made by fork, where there is t alone; it has the turn */
+void restart_turns(thread *t);
 void for_all_threads(void (*step)(thread *t));               /* that are there; with the turn */
-int end_turns(void);                   /* all threads run free from here on; returns whether they took turns before */
+/* all threads run free from here on; returns whether they took turns before */
+int end_turns(void);
 thread *new_thread(void);
 void end_thread(thread *t);            /* it is joined, and the record has that; or it was not started */
 enum way_to_end { IS_DETACHED = 1, LEAVES = 2 };             /* LEAVES: its last destructors run */
@@ -124,19 +139,24 @@ thread *newest_with(void *argument);   /* that isn't over */
 thread *enter(enum yields yields);
 thread *enter_access(enum yields yields);                    /* to put one record, and nothing before */
 void leave(thread *t);
-void begin_inside(thread *t);          /* no signal is handled, nor the thread cancelled, until it has left the hook */
-void end_inside(thread *t);            /* what isn't a hook ends with this alone: quick ones before it may go on */
+/* no signal is handled, nor the thread cancelled, until it has left the hook */
+void begin_inside(thread *t);
+/* what isn't a hook ends with this alone: quick ones before it may go on */
+void end_inside(thread *t);
 void deliver_deferred(thread *t);      /* the signals that came in its hook */
 void give_turn(thread *t);
 void take_turn(thread *t);
 int keep_turn(thread *t);
 void keep_turn_after_call(thread *t);
 int let_another_run(thread *t);        /* if it may help; says whether */
-int note_unusual(thread *t);           /* with the turn: what was asked for wasn't there, or the like; returns 1 */
+/* with the turn: what was asked for wasn't there, or the like; returns 1 */
+int note_unusual(thread *t);
 int was_unusual(thread *t);            /* with the turn, in a replay: it was so at this step; else 0 */
-int waits_for_list(thread *t);         /* in a replay, in the place of a call that waits; 0 where the call has to */
+/* in a replay, in the place of a call that waits; 0 where the call has to */
+int waits_for_list(thread *t);
 void note_spin(thread *t, uint64_t last);        /* in a hook that leaves the value as it was */
-extern thread *volatile quick_holder;  /* who has the turn, where no waiter doubts that it needs it still; else NOBODY_IS_QUICK */
+/* who has the turn, where no waiter doubts that it needs it still; else NOBODY_IS_QUICK */
+extern thread *volatile quick_holder;
 #define NOBODY_IS_QUICK ((thread *)1)
 
 /* replay.c: the order of turns.  Under the guard, where nothing else is said. */
@@ -150,14 +170,16 @@ void begin_turn(thread *t);
 void end_turn(thread *t);
 void begin_replay(const char *path);   /* before the first turn */
 void end_replay(const char *why);
-int may_get_turn(const thread *t, const thread *holder);     /* by the list; the holder, or nobody, has not given it to t */
+/* by the list; the holder, or nobody, has not given it to t */
+int may_get_turn(const thread *t, const thread *holder);
 uint32_t due_thread(void);             /* whose turn it is */
 int steps_to_go(const thread *t);      /* in its turn, which has begun */
 int next_is_unusual(const thread *t);  /* moves on past what the list has of this step */
 void add_unusual(const thread *t);
 
 #define DONE(call) ({ call; 0; })      /* of a call that returns nothing */
-/* A call that may block, made inside a hook: without the turn, and its own hooks (of handlers, say) are recorded. */
+/* A call that may block, made inside a hook: without the turn, and its own hooks (of handlers, say)
+   are recorded. */
 #define BLOCKING(t, call) ({ \
     give_turn(t); \
     leave(t); \
@@ -182,20 +204,24 @@ typedef struct { frame innermost; uint32_t depth; } interrupted;
 interrupted push_frame(thread *t, uint64_t caller, uint64_t function);
 void pop_frame(thread *t, const interrupted *before);
 static inline int is_numbered(const context *c) { return c->number <= (1 << CONTEXT_BITS) - 1; }
-static inline uint32_t recordable_depth(const thread *t) { return t->depth < MOST_FRAMES ? t->depth : MOST_FRAMES; }
+static inline uint32_t recordable_depth(const thread *t) {
+    return t->depth < MOST_FRAMES ? t->depth : MOST_FRAMES;
+}
 
 /* file.c: the files and their descriptors. */
 enum kept_file { RECORD, TURNS, PROC };
 enum { COMMAND_BYTES = 1024 };         /* of the header's line with the command, with its end */
 void begin_messages(void);
-void tell(const char *format, ...) __attribute__((format(printf, 1, 2)));   /* on standard error, if it still is that */
+/* on standard error, if it still is that */
+void tell(const char *format, ...) __attribute__((format(printf, 1, 2)));
 int is_kept(int descriptor);           /* is it the recorder's own? */
 unsigned next_kept(unsigned from);     /* the lowest such number from there on, or ~0u */
 void leave_number(int descriptor);     /* so that the program can have it */
 int keep_path(const char *path);
 int has_number(void);                  /* is there a record for each process? */
 int refuse(const char *path);          /* says that it can't be written, as errno has it; returns 0 */
-int open_file(const char *command, uint64_t first_bytes, uint64_t segment);             /* will it be allowed so many? */
+/* will it be allowed so many? */
+int open_file(const char *command, uint64_t first_bytes, uint64_t segment);
 void drop_segment(uint64_t segment);   /* deletes its file, if that is there */
 #define ANY_TURNS "shb-turns "        /* a list of turns begins with that */
 int open_turns(uint64_t first_bytes);  /* the list beside the record */
@@ -207,7 +233,8 @@ int take_file(void);
 void leave_file(enum kept_file which);
 int open_proc(void);
 int read_task_file(pid_t system_id, const char *leaf, char *text, int size);
-uint64_t free_space(void);             /* bytes that the disk has for more of the record; -1 where nobody says */
+/* bytes that the disk has for more of the record; -1 where nobody says */
+uint64_t free_space(void);
 
 /* recording.c: the record. */
 extern int stall_seconds;
@@ -223,21 +250,27 @@ void next_segment(thread *t);          /* in a hook, before it does anything */
 void stop_recording(const char *reason);
 void note_end(const char *how);
 const char *own_end(void);             /* as note_end takes it, where nothing stopped the recording */
-void note_stranger(void);              /* a hook met a thread that nobody saw begin: its accesses are missed */
+/* a hook met a thread that nobody saw begin: its accesses are missed */
+void note_stranger(void);
 void note_text(const char *line);      /* adds a line to the header */
 const char *own_command(void);         /* that line of the header */
 void unlock_record(void);
 void give_back_room(void);
 int limit_record(uint64_t addresses);
-extern uint64_t changes;               /* records so far of anything but reads, and writes that were held back */
-int begin_work(thread *t);             /* afterwards t has the turn, unless the recording has ended, and keeps it while it works */
+/* records so far of anything but reads, and writes that were held back */
+extern uint64_t changes;
+/* afterwards t has the turn, unless the recording has ended, and keeps it while it works */
+int begin_work(thread *t);
 void put(thread *t, enum operation operation, const volatile void *address, uint64_t size, uint64_t caller);
 /* A hook of its own for one record. */
-void note_bytes(enum yields yields, enum operation operation, const volatile void *p, uint64_t size, uint64_t caller);
+void note_bytes(enum yields yields, enum operation operation, const volatile void *p, uint64_t size,
+                uint64_t caller);
 void note(enum operation operation, const volatile void *object, uint64_t caller);
-void put_of(thread *t, const thread *ended, enum operation operation, const volatile void *object, uint64_t caller);
+void put_of(thread *t, const thread *ended, enum operation operation, const volatile void *object,
+            uint64_t caller);
 void put_name(thread *t, thread *named, const char *name);
-uint64_t begin_quick(thread *t);       /* with the turn, at the end of a hook: so many of its hooks may be quick now */
+/* with the turn, at the end of a hook: so many of its hooks may be quick now */
+uint64_t begin_quick(thread *t);
 void end_quick(thread *t);             /* with the turn; or under the guard, by the one who took it over */
 
 /* held.c: the locks that are held, with which each segment of a record begins. */
@@ -250,24 +283,32 @@ extern uint32_t held_count;
 struct module { uint64_t low, high; int is_in_c; };
 extern struct module modules[];        /* those compiled with -fsanitize=thread */
 extern int module_count;
-static inline const struct module *module_of(uint64_t code) {          /* the one of these in which it lies, or null */
+/* the one of these in which it lies, or null */
+static inline const struct module *module_of(uint64_t code) {
     for (int i = 0; i < module_count; i++)
         if (code >= modules[i].low && code < modules[i].high) return &modules[i];
     return 0;
 }
 static inline int instrumented(uint64_t caller) { return module_of(caller) != 0; }
-int tells_its_own_order(uint64_t caller);                    /* the begin and end of its objects are not recorded */
+/* the begin and end of its objects are not recorded */
+int tells_its_own_order(uint64_t caller);
 void *next_symbol(const char *name);
 void *library_symbol(const char *name);                      /* also of a library that came by dlopen */
 int program_has(const char *name);     /* or a library before this one: a function that this one has, too */
 int is_behind_the_c_library(void);     /* do calls of the program go to that, and not to this library? */
 void note_modules(void);
 
-/* A function that one here stands for. All are looked up when the program begins, for a handler of a signal may not look for a name. */
+/* A function that one here stands for. All are looked up when the program begins, for a handler of a signal
+   may not look for a name. */
 struct forwarded { const char *name; void *function; };
-void *find_forwarded(struct forwarded *which);               /* of one that wasn't there then; the program ends where no library has it */
-static inline void *function_if_any(struct forwarded *f) { return f->function ? f->function : (f->function = next_symbol(f->name)); }
-static inline void *function_of_name(struct forwarded *f) { return f->function ? f->function : find_forwarded(f); }
+/* of one that wasn't there then; the program ends where no library has it */
+void *find_forwarded(struct forwarded *which);
+static inline void *function_if_any(struct forwarded *f) {
+    return f->function ? f->function : (f->function = next_symbol(f->name));
+}
+static inline void *function_of_name(struct forwarded *f) {
+    return f->function ? f->function : find_forwarded(f);
+}
 #define FORWARDED(name) ({ \
     static struct forwarded forwarded_ __attribute__((section("forwarded"), aligned(16), used)) = {name, 0}; \
     &forwarded_; \
@@ -276,9 +317,11 @@ static inline void *function_of_name(struct forwarded *f) { return f->function ?
 #define REAL_OF_NAME(name, type) ((type)function_of_name(FORWARDED(name)))
 #define REAL(f) REAL_OF_NAME(#f, __typeof__(&f))
 
-/* accesses.c: a quick hook (hold.h) of a range whose cells have the use already, in their first phase. Is it held back? */
+/* accesses.c: a quick hook (hold.h) of a range whose cells have the use already, in their first phase. Is it
+   held back? */
 int hold_range(enum operation operation, uint64_t address, uint64_t size, uint64_t caller);
-int load_acquire(const int *p, uint64_t caller);             /* an atomic load by the caller, who waits for nobody */
+/* an atomic load by the caller, who waits for nobody */
+int load_acquire(const int *p, uint64_t caller);
 
 /* memory.c */
 void *allocated(void *p, size_t size, uint64_t caller);      /* notes new variables; returns p */
@@ -288,7 +331,8 @@ void watch_crashes(void);
 
 /* descriptors.c */
 void unlock_keys(void);                /* in a process made by fork: another thread may have had their lock */
-int copy_in(void *to, const void *from, size_t bytes);       /* of what may not be there: then the call will say so */
+/* of what may not be there: then the call will say so */
+int copy_in(void *to, const void *from, size_t bytes);
 
 /* waits.c */
 void let_others_run(void);             /* gives the turn up before a call that may wait */

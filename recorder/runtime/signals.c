@@ -1,10 +1,11 @@
-/* Signals: no handler runs inside a hook.  One that comes there is blocked, sent again, and comes after it.  What a
-   handler does is recorded as its thread's own. */
+/* Signals: no handler runs inside a hook.  One that comes there is blocked, sent again, and comes after it.
+   What a handler does is recorded as its thread's own. */
 #include "runtime.h"
 #include <ucontext.h>
 
 static struct sigaction handlers[NSIG];
-enum { HANDLER_HOOKS = 1000 };         /* so many before a handler may give the turn up: an access may lie under it */
+/* so many before a handler may give the turn up: an access may lie under it */
+enum { HANDLER_HOOKS = 1000 };
 
 static int from_the_code_itself(int signal) {
     return signal == SIGSEGV || signal == SIGBUS || signal == SIGFPE || signal == SIGILL || signal == SIGTRAP
@@ -36,13 +37,17 @@ static void handle(int signal, siginfo_t *info, void *context) {
     errno = saved;
 }
 
-/* ---- a signal that ends the program where its code made it: what it was, and where, is recorded; then it comes again ---- */
-extern const char __start_atomics[] __attribute__((visibility("hidden"))), __stop_atomics[] __attribute__((visibility("hidden")));
+/* ---- a signal that ends the program where its code made it: what it was, and where, is recorded; then it
+   comes again ---- */
+extern const char __start_atomics[] __attribute__((visibility("hidden"))),
+    __stop_atomics[] __attribute__((visibility("hidden")));
 static void crash(int signal, siginfo_t *info, void *context) {
     uint64_t next = ((ucontext_t *)context)->uc_mcontext.gregs[REG_RIP] + 1;
-    int has_address = info->si_code > 0 && info->si_code != SI_KERNEL && (signal == SIGSEGV || signal == SIGBUS);
+    int has_address = info->si_code > 0 && info->si_code != SI_KERNEL
+        && (signal == SIGSEGV || signal == SIGBUS);
     if (self && next > (uint64_t)__start_atomics && next <= (uint64_t)__stop_atomics) self->inside = 0;
-    thread *t = self ? enter(NEVER_YIELD) : 0;               /* not where the fault is in a hook but for an atomic operation */
+    /* not where the fault is in a hook but for an atomic operation */
+    thread *t = self ? enter(NEVER_YIELD) : 0;
     if (t) {
         put(t, OP_CRASH, has_address ? info->si_addr : 0, signal | (has_address ? HAS_ADDRESS : 0), next);
         leave(t);
@@ -61,7 +66,8 @@ static struct sigaction default_of(int signal) {
 void watch_crashes(void) {
     for (int signal = 1; signal < NSIG; signal++) {
         struct sigaction now, ours = default_of(signal);
-        if (!from_the_code_itself(signal) || REAL(sigaction)(signal, 0, &now) || now.sa_handler != SIG_DFL) continue;
+        if (!from_the_code_itself(signal) || REAL(sigaction)(signal, 0, &now) || now.sa_handler != SIG_DFL)
+            continue;
         REAL(sigaction)(signal, &ours, 0);
     }
 }

@@ -1,6 +1,7 @@
 #!/usr/bin/env python3
-"""Prints a line `STRING(VERSION, NAME, BEFORE, AFTER)` for each function of the C++ library that reads or changes a
-std::string: what containers.c notes before it and after it. Nothing is printed where there is no such library.
+"""Prints a line `STRING(VERSION, NAME, BEFORE, AFTER)` for each function of the C++ library that reads or
+changes a std::string: what containers.c notes before it and after it. Nothing is printed where there is no
+such library.
 
     strings.py LIBSTDCXX
 """
@@ -13,7 +14,8 @@ import sys
 STRING = "std::__cxx11::basic_string<char, std::char_traits<char>, std::allocator<char> >"
 ITERATOR = re.compile(r"__gnu_cxx::__normal_iterator<(char const\*|char\*), S >")
 MEMBER = re.compile(r"(?:void )?S::(?:operator)?(\w+|~\w+|[^\w ]+| std.*>)(?:<.*>)?(\(.*\))(?: const)?")
-STREAM = re.compile(r".*& (std::\w+|std::operator..) ?<char,[^&]*>\(std::[^&]*&, ((?:S&.*|S const&|char const\*, long)\))")
+STREAM = re.compile(r".*& (std::\w+|std::operator..) ?<char,[^&]*>\(std::[^&]*&, ((?:S&.*|S const&|char "
+                    r"const\*, long)\))")
 # The arguments are a, b, .. f. What parameters read, and how many arguments they are: the first that fits.
 PARAMETERS = [(re.compile(pattern), text, words) for pattern, text, words in (
     (r"S const&, unsigned long, unsigned long", "reads_part(&its, {0}.s, {1}.n, {2}.n);", 3),
@@ -29,13 +31,17 @@ PARAMETERS = [(re.compile(pattern), text, words) for pattern, text, words in (
     (r"[^,]+", "", 1))]
 SEARCHES = [(f"{names}\\({parameters}", 9, before, f"found(&its, a.s, {ends});")
             for names, ends in (("(rfind|find_last.*)", "(uint64_t)r + 1 ? r : 0, c.n"), ("find.*", "c.n, r"))
-            for parameters, before in ((r"char const\*, unsigned long\)", "reads_text(&its, b.text, text(b.text));"),
+            for parameters, before in ((r"char const\*, unsigned long\)", "reads_text(&its, b.text, "
+                                        "text(b.text));"),
                                        (r"char const\*, .*", "reads_text(&its, b.text, d.n);"),
-                                       (r"S .*", "reads_part(&its, b.s, 0, ALL);"), (r"char, .*", "its.added++;"))]
+                                       (r"S .*", "reads_part(&its, b.s, 0, ALL);"),
+                                       (r"char, .*", "its.added++;"))]
 CHANGES = "will_change(&its, a.s);"
-# Of each call: how many of its first parameters read nothing; what is noted before it, with what the others read; after it.
+# Of each call: how many of its first parameters read nothing; what is noted before it, with what the others
+# read; after it.
 CALLS = [(re.compile(pattern), *said) for pattern, *said in (
-    (r"(_M_)?get_allocator.*|max_size.*|_M_local_data.*|_M_create.*|_Alloc_hider.*|__sv_wrapper.*|_S_compare.*|_S_to.*", 9, "", ""),
+    (r"(_M_)?get_allocator.*|max_size.*|_M_local_data.*|_M_create.*|_Alloc_hider.*|__sv_wrapper.*"
+     r"|_S_compare.*|_S_to.*", 9, "", ""),
     (r"std::(getline|operator>>).*", 9, "", "made(&its, b.s);"),
     (r"std::.*", 0, "", ""),
     (r"_S_copy_chars.*", 9, "reads_text(&its, b.text, c.n - b.n);writes(&its, a.text, c.n - b.n);", ""),
@@ -70,7 +76,8 @@ def reads(parameters, arguments):
     """What is noted of parameters, whose arguments these are."""
     text = ""
     while parameters:
-        found, noted, count = next((found, *said) for pattern, *said in PARAMETERS if (found := pattern.match(parameters)))
+        found, noted, count = next((found, *said) for pattern, *said in PARAMETERS
+                                   if (found := pattern.match(parameters)))
         text += noted.format(*arguments)
         parameters, arguments = parameters[found.end():].lstrip(", "), arguments[count:]
     return text
@@ -88,7 +95,8 @@ def main(library):
         found = MEMBER.fullmatch(shown) or STREAM.fullmatch(shown)
         if found:
             of, parameters = found[1], found[2].strip("()")
-            skipped, before, after = next(said for pattern, *said in CALLS if pattern.fullmatch(f"{of}({parameters})"))
+            skipped, before, after = next(said for pattern, *said in CALLS
+                                          if pattern.fullmatch(f"{of}({parameters})"))
             before = reads(", ".join(parameters.split(", ")[skipped:]), "bcdef"[skipped:]) + before
             symbol, _, version = name.partition("@@")
             if before or after:

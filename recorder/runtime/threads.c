@@ -20,7 +20,9 @@ static uint64_t setting(const char *name, uint64_t least, uint64_t most, uint64_
     errno = 0;
     uint64_t n = value ? strtoull(value, &end, 10) : 0;
     if (value && *value >= '0' && *value <= '9' && !*end && !errno && n >= least && n <= most) return n;
-    if (value) tell("shb recorder: %s takes a number from %lu to %lu, not `%s`, and is ignored\n", name, least, most, value);
+    if (value)
+        tell("shb recorder: %s takes a number from %lu to %lu, not `%s`, and is ignored\n", name, least, most,
+             value);
     return otherwise;
 }
 
@@ -53,7 +55,8 @@ static void release_robust(const thread *t) {
     struct robust_list_head *all;
     size_t size;
     if (syscall(SYS_get_robust_list, 0, &all, &size)) return;
-    for (uint64_t next = (uint64_t)all->list.next & ~1ull; next != (uint64_t)all; next = *(uint64_t *)next & ~1ull)
+    for (uint64_t next = (uint64_t)all->list.next & ~1ull; next != (uint64_t)all; next = *(uint64_t *)next
+         & ~1ull)
         note(OP_UNLOCK, (void *)(next + all->futex_offset), function_of(t) + 1);
 }
 
@@ -94,19 +97,21 @@ static void in_child(void) {
 /* It starts threads and nobody records them: it says so, once. */
 static void tell_of_child(void) {
     if (is_unrecorded_child)
-        tell("shb recorder: a process made by fork starts threads and runs unrecorded (%%p in SHB_RECORD gives each process a record of its own)\n");
+        tell("shb recorder: a process made by fork starts threads and runs unrecorded (%%p in SHB_RECORD "
+             "gives each process a record of its own)\n");
     is_unrecorded_child = 0;
 }
 
-/* A process made by vfork uses its parent's memory and says nothing. Where nothing is recorded any more no system call is made: a
-   filter of the program's may forbid it (limits.c). */
+/* A process made by vfork uses its parent's memory and says nothing. Where nothing is recorded any more no
+   system call is made: a filter of the program's may forbid it (limits.c). */
 static int is_own(void) { return recording && process && getpid() == process; }
 
 __attribute__((destructor(101))) static void end(void) {
     if (is_own()) close_recording();
 }
 
-/* shb-record has this library loaded first in the program that it starts, and in none that this one starts: what they have there. */
+/* shb-record has this library loaded first in the program that it starts, and in none that this one starts:
+   what they have there. */
 static void restore_preload(void) {
     const char *others = getenv("SHB_PRELOAD");
     if (!others) return;
@@ -115,7 +120,8 @@ static void restore_preload(void) {
     unsetenv("SHB_PRELOAD");
 }
 
-/* A program with other rights than those of who starts it does nothing that the environment asks for, and hands nothing on of that. */
+/* A program with other rights than those of who starts it does nothing that the environment asks for, and
+   hands nothing on of that. */
 static int has_rights_of_its_own(void) {
     if (!getauxval(AT_SECURE)) return 0;
     unsetenv("SHB_PRELOAD");
@@ -133,17 +139,20 @@ __attribute__((constructor(101))) static void begin(void) {
     stall_seconds = setting("SHB_STALL", 1, INT_MAX, 60);
     records_calls = setting("SHB_STACKS", 0, 1, 1);
     segment_records = strstr(path, "%s") ? setting("SHB_SEGMENT", 1, MOST_SET, 0) : 0;
-    if (!open_recording(path, setting("SHB_RECORDS", 1, MOST_SET, 0), setting("SHB_CELLS", 0, MOST_SET, CELL_MEGABYTES) << 20)) return;
-    if (!has_number()) unsetenv("SHB_RECORD");               /* a program started by this one would write over it */
+    if (!open_recording(path, setting("SHB_RECORDS", 1, MOST_SET, 0),
+                        setting("SHB_CELLS", 0, MOST_SET, CELL_MEGABYTES) << 20)) return;
+    /* a program started by this one would write over it */
+    if (!has_number()) unsetenv("SHB_RECORD");
     note_modules();
     if (is_behind_the_c_library()) {
         note_end("the C library comes before the recorder's, so no thread is seen");
-        tell("shb recorder: calls of pthread_create go to the C library, which the program is linked with before -ltsan (or that comes "
-             "by dlopen): the program runs unrecorded\n");
+        tell("shb recorder: calls of pthread_create go to the C library, which the program is linked with "
+             "before -ltsan (or that comes by dlopen): the program runs unrecorded\n");
         return;
     }
     thread *t = new_thread();
-    if (!t || !number_thread(t) || pthread_key_create(&at_exit, thread_exits) || pthread_atfork(0, 0, in_child)) return;
+    if (!t || !number_thread(t) || pthread_key_create(&at_exit, thread_exits)
+        || pthread_atfork(0, 0, in_child)) return;
     at_quick_exit(end);                                      /* the last of its handlers */
     if (getenv("SHB_REPLAY")) begin_replay(getenv("SHB_REPLAY"));
     begin_turns(setting("SHB_SLICE", 1, INT_MAX / 2, 0), setting("SHB_SEED", 0, -1, 0));
@@ -212,7 +221,8 @@ static void *run(void *t_) {
 
 /* Starts the thread with all signals blocked, for a handler would run in it before it has begun. */
 static int start_blocked(thread *t, thread *child, pthread_t *created, const pthread_attr_t *attributes) {
-    pthread_attr_t *its = (pthread_attr_t *)attributes;      /* others have no turn, so it is changed and changed back */
+    /* others have no turn, so it is changed and changed back */
+    pthread_attr_t *its = (pthread_attr_t *)attributes;
     sigset_t all, before;
     sigfillset(&all);
     pthread_sigmask(SIG_SETMASK, &all, &before);
@@ -232,9 +242,11 @@ static int is_detached(const pthread_attr_t *attributes, uint64_t caller) {
     return state == PTHREAD_CREATE_DETACHED && !tells_its_own_order(caller) ? IS_DETACHED : 0;
 }
 
-/* Records the fork and starts the thread, whose function and argument are in `start`; NOT_STARTED where it can't have a number. */
+/* Records the fork and starts the thread, whose function and argument are in `start`; NOT_STARTED where it
+   can't have a number. */
 enum { NOT_STARTED = -1 };
-static int create_in_hook(thread *t, thread start, pthread_t *handle, const pthread_attr_t *attributes, uint64_t caller) {
+static int create_in_hook(thread *t, thread start, pthread_t *handle, const pthread_attr_t *attributes,
+                          uint64_t caller) {
     begin_work(t);
     thread *child = new_thread();
     move_to_file();
@@ -250,7 +262,8 @@ static int create_in_hook(thread *t, thread start, pthread_t *handle, const pthr
     child->ends = is_detached(attributes, caller);
     others++;
     put(t, OP_FORK, (void *)(uint64_t)child->number, 0, caller);
-    pthread_t created;                 /* where the caller wants it only when it is known: others may read that */
+    /* where the caller wants it only when it is known: others may read that */
+    pthread_t created;
     int error = start_blocked(t, child, &created, attributes);
     if (!error) wait_for_start(child);
     keep_turn_after_call(t);
@@ -268,7 +281,8 @@ static int create(thread start, pthread_t *handle, const pthread_attr_t *attribu
     return error;
 }
 
-PUBLIC int pthread_create(pthread_t *handle, const pthread_attr_t *attributes, void *(*function)(void *), void *argument) {
+PUBLIC int pthread_create(pthread_t *handle, const pthread_attr_t *attributes, void *(*function)(void *),
+                          void *argument) {
     int error = create((thread){.function = function, .argument = argument}, handle, attributes, CALLER);
     return error == NOT_STARTED ? REAL(pthread_create)(handle, attributes, function, argument) : error;
 }

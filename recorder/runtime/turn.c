@@ -1,27 +1,31 @@
 /* The order of the record.
 
-   One thread at a time has the *turn*.  A hook takes it, writes its record and returns with the turn, so the access that
-   follows is done before any other thread writes a record.  A thread loses the turn only
-     (a) at a later hook of its own, when it is no longer in the access before: it *gives* it, to a waiter or to nobody;
+   One thread at a time has the *turn*.  A hook takes it, writes its record and returns with the turn, so the
+   access that follows is done before any other thread writes a record.  A thread loses the turn only
+     (a) at a later hook of its own, when it is no longer in the access before: it *gives* it, to a waiter or
+     to nobody;
      (b) around a call that may block: it gives it likewise;
      (c) to a waiter that sees it asleep inside a system call: between a hook and its access there is none;
-     (d) to a waiter that sees that it has computed for 20 ms since its last hook: no access takes so long but those of long ranges.
-   Not while it `works` on the record, where it may sleep for room: it says so before it asks whether it has the turn.
-   In (c) and (d) the waiter *takes it over*.  The word `turn` has the holder and a count that each hook raises.  The
-   waiter reads the word, then looks at the holder, then swaps itself in if the word is still the same: so there was no
-   hook since, and it looked at a thread past its access.  The holder finds another one in the word at its next hook.
+     (d) to a waiter that sees that it has computed for 20 ms since its last hook: no access takes so long but
+     those of long ranges.
+   Not while it `works` on the record, where it may sleep for room: it says so before it asks whether it has
+   the turn. In (c) and (d) the waiter *takes it over*.  The word `turn` has the holder and a count that each
+   hook raises.  The waiter reads the word, then looks at the holder, then swaps itself in if the word is
+   still the same: so there was no hook since, and it looked at a thread past its access.  The holder finds
+   another one in the word at its next hook.
 
-   All other changes of hands are made under `guard`.  A waiter stands in `waiting` from its first step in take_turn to
-   its last, put in and taken out by itself.  To be given the turn is no more than to be named in the word: until the
-   waiter has accepted, by a swap like the one above, another may take the turn over, and then it just waits on.
-   In a replay the list of replay.c says to whom the turn is given, and who alone may take it over.
+   All other changes of hands are made under `guard`.  A waiter stands in `waiting` from its first step in
+   take_turn to its last, put in and taken out by itself.  To be given the turn is no more than to be named in
+   the word: until the waiter has accepted, by a swap like the one above, another may take the turn over, and
+   then it just waits on. In a replay the list of replay.c says to whom the turn is given, and who alone may
+   take it over.
 
-   To raise the count takes longer than all else in a hook, and is of use only while a waiter looks. So no hook raises it while
-   `quick_holder` names its thread: from when that has accepted the turn until it gives it or a waiter *doubts*.  A waiter doubts
-   before it looks: it takes the name away, and has all threads that run pass a barrier (membarrier).  After that each hook
-   raises the count, but for one that had begun; and only then the waiter reads the word.  It begins to doubt where the word was
-   the same for a whole patience, and doubts as long as it is.
-   tests/model.py searches all interleavings of this. */
+   To raise the count takes longer than all else in a hook, and is of use only while a waiter looks. So no
+   hook raises it while `quick_holder` names its thread: from when that has accepted the turn until it gives
+   it or a waiter *doubts*.  A waiter doubts before it looks: it takes the name away, and has all threads that
+   run pass a barrier (membarrier).  After that each hook raises the count, but for one that had begun; and
+   only then the waiter reads the word.  It begins to doubt where the word was the same for a whole patience,
+   and doubts as long as it is. tests/model.py searches all interleavings of this. */
 #include "runtime.h"
 #include "cells.h"
 #include <linux/futex.h>
@@ -32,22 +36,28 @@
 #define NAME(t) ((t)->number + 1)
 #define COMPUTES_TICKS 2               /* of 10 ms, */
 #define BYTES_OF_TICK (4 << 20)        /* and one more for each so many bytes that it accesses */
-#ifdef HASTY                           /* for the tests: turns are taken over sooner, and others run in between */
+/* for the tests: turns are taken over sooner, and others run in between */
+#ifdef HASTY
 #define PATIENCE_NS 10000
 #define TEST_YIELD() syscall(SYS_sched_yield)
 #else
-#define PATIENCE_NS 300000             /* then a lone waiter looks at the holder; one of several after ten times it */
+/* then a lone waiter looks at the holder; one of several after ten times it */
+#define PATIENCE_NS 300000
 #define TEST_YIELD() (void)0
 #endif
-#ifndef IS_PATIENT                     /* 1 in tests: no waiter looks, so who blocks has to give the turn up */
+/* 1 in tests: no waiter looks, so who blocks has to give the turn up */
+#ifndef IS_PATIENT
 #define IS_PATIENT 0
 #endif
-#define START_SECONDS 1                /* the longest wait for a new thread: on a busy machine it begins late */
-#define FIRST_SLICES 4                 /* without SHB_SLICE slices begin with 1, 2, 4 or 8 hooks, on average, */
+/* the longest wait for a new thread: on a busy machine it begins late */
+#define START_SECONDS 1
+/* without SHB_SLICE slices begin with 1, 2, 4 or 8 hooks, on average, */
+#define FIRST_SLICES 4
 #define SLICES_OF_A_SCALE 64           /* are twice as long after so many, and end with */
 #define LEAST_LAST_SLICE 100           /* 100, 200 or 400: to hand the turn over costs some 50 hooks */
 #define LAST_SLICES 3
-#define QUICK_HOOKS 16                 /* so many take as much of a long slice as another one: no other thread has use of them */
+/* so many take as much of a long slice as another one: no other thread has use of them */
+#define QUICK_HOOKS 16
 #define MOST_STARTS 64                 /* the first threads with which they begin anew */
 #define SLICES_HELD 4                  /* on average */
 
@@ -65,10 +75,12 @@ static uint64_t random_state = 88172645463325252ull;
 static int slice, last_slice, slices, given_slice;
 static thread *held;                   /* one of the waiters, or nobody; under the guard */
 thread *volatile quick_holder = NOBODY_IS_QUICK;             /* changed under the guard */
-static thread *holder;                 /* who has accepted the turn, and has neither given nor lost it; under the guard */
+/* who has accepted the turn, and has neither given nor lost it; under the guard */
+static thread *holder;
 static int doubters;                   /* under the guard */
 static int has_barrier;                /* of the system, for all threads; else no hook is quick */
-static thread *leaving;                /* a list of detached ones that run their last destructors, or are gone; with the turn */
+/* a list of detached ones that run their last destructors, or are gone; with the turn */
+static thread *leaving;
 
 static uint64_t draw(void) {           /* xorshift; with the turn or the guard */
     random_state ^= random_state << 13;
@@ -100,7 +112,8 @@ static void wake(thread *t) {
     syscall(SYS_futex, &t->wakes, FUTEX_WAKE_PRIVATE, 1, 0, 0, 0);
 }
 
-/* Has t the turn still?  Raises the count where somebody doubts it, so that no waiter that looked before this takes the turn over. */
+/* Has t the turn still?  Raises the count where somebody doubts it, so that no waiter that looked before this
+   takes the turn over. */
 int keep_turn(thread *t) {
     uint64_t word = atomic_load_explicit(&turn, memory_order_relaxed);
     if (t != quick_holder && (HOLDER(word) != NAME(t) || !swap_in(t, word))) return 0;
@@ -111,7 +124,9 @@ int keep_turn(thread *t) {
 }
 
 /* Under the guard. */
-static void name_quick_holder(void) { quick_holder = holder && recording && !doubters && has_barrier ? holder : NOBODY_IS_QUICK; }
+static void name_quick_holder(void) {
+    quick_holder = holder && recording && !doubters && has_barrier ? holder : NOBODY_IS_QUICK;
+}
 
 static int ask_for_barrier(int command) { return !syscall(SYS_membarrier, command, 0, 0); }
 
@@ -205,7 +220,8 @@ static int get_turn(thread *t, uint64_t seen) {
     return 1;
 }
 
-/* Takes the turn if nobody has it, else stands among the waiters, at its first hook perhaps as the held one. */
+/* Takes the turn if nobody has it, else stands among the waiters, at its first hook perhaps as the
+   held one. */
 static int take_free(thread *t) {
     int is_first = !t->began;
     lock_guard();
@@ -218,13 +234,15 @@ static int take_free(thread *t) {
     return done;
 }
 
-/* Waits until a new thread is at its first hook.  It doesn't sleep, for then a waiter would take the turn over. */
+/* Waits until a new thread is at its first hook.  It doesn't sleep, for then a waiter would take the
+   turn over. */
 void wait_for_start(const thread *child) {
     time_t end = seconds_now() + START_SECONDS;
     while (recording && !child->began && are_slices_short() && seconds_now() <= end) syscall(SYS_sched_yield);
 }
 
-/* The waiter's last step, and the end of its doubt: takes the turn if its word is still the one seen; also where the recording has ended. */
+/* The waiter's last step, and the end of its doubt: takes the turn if its word is still the one seen; also
+   where the recording has ended. */
 static int accept(thread *t, uint64_t seen, int doubts) {
     TEST_YIELD();
     lock_guard();
@@ -248,11 +266,12 @@ static long user_ticks(const char *state) {
 
 static int is_gone(pid_t system_id) { return syscall(SYS_tgkill, getpid(), system_id, 0) && errno == ESRCH; }
 
-/* Is the thread gone, or asleep inside a system call?  A page fault is no system call.  *ticks gets its time.  Where nobody
-   can say, the recording ends. */
+/* Is the thread gone, or asleep inside a system call?  A page fault is no system call.  *ticks gets its time.
+   Where nobody can say, the recording ends. */
 static int gone_or_asleep(pid_t system_id, long *ticks) {
     char text[512];
-    if (!system_id || is_gone(system_id)) return 1;          /* its number was used again, by one that isn't there yet */
+    /* its number was used again, by one that isn't there yet */
+    if (!system_id || is_gone(system_id)) return 1;
     int n = read_task_file(system_id, "stat", text, sizeof text);
     char *p = n > 0 ? strrchr(text, ')') : 0;
     if (!p || !p[1]) {
@@ -265,11 +284,13 @@ static int gone_or_asleep(pid_t system_id, long *ticks) {
     if (state == 'Z' || state == 'X') return 1;
     if (state != 'S' && state != 'D') return 0;
     n = read_task_file(system_id, "syscall", text, sizeof text);
-    if (n <= 0) return state == 'S';                         /* it gave up its rights: a page fault is waited for in state D */
+    /* it gave up its rights: a page fault is waited for in state D */
+    if (n <= 0) return state == 'S';
     return text[0] >= '0' && text[0] <= '9';
 }
 
-/* While a waiter doubts: the turn's word, when it was first looked at the holder, and its time then, where it didn't work. */
+/* While a waiter doubts: the turn's word, when it was first looked at the holder, and its time then, where it
+   didn't work. */
 struct watch { int doubts; uint64_t word; long ticks; time_t since; };
 
 /* The word, which is doubted where it was the same for a whole patience. */
@@ -289,7 +310,8 @@ static int past_its_access(uint64_t word, struct watch *watch) {
     if (HOLDER(word) == NOBODY) return 1;
     if (!watch->doubts) return 0;
     const thread *seen = holder_of(word);
-    int works = seen->works;           /* read before the look: if not, it has ended that, or the word is another one by now */
+    /* read before the look: if not, it has ended that, or the word is another one by now */
+    int works = seen->works;
     if (gone_or_asleep(seen->system_id, &ticks) && (!works || is_gone(seen->system_id))) return 1;
     if (!watch->since) watch->since = seconds_now();
     if (watch->ticks < 0 && !works) watch->ticks = ticks;
@@ -306,13 +328,14 @@ static int may_take_over(const thread *t, uint64_t word, struct watch *watch) {
 enum { LOOK_SECONDS = 1, LATE_SECONDS = 5 };
 struct lateness { uint64_t word; time_t since; };            /* as a waiter saw it */
 
-/* Why t gives the replay up after so many seconds, or 0.  Not where the thread that is due is on its way to its next hook,
-   nor where it sleeps as long as t would. */
+/* Why t gives the replay up after so many seconds, or 0.  Not where the thread that is due is on its way to
+   its next hook, nor where it sleeps as long as t would. */
 static const char *reason_to_leave(const thread *t, uint64_t word, time_t seconds) {
     uint32_t number = due_thread();
     const thread *awaited = HOLDER(word) ? holder_of(word) : number < thread_count ? threads[number] : 0;
     long ticks = 0;
-    if (!awaited || (awaited->system_id && is_gone(awaited->system_id))) return "the thread that is due is gone";
+    if (!awaited || (awaited->system_id && is_gone(awaited->system_id)))
+        return "the thread that is due is gone";
     int is_patient = t->idles || !gone_or_asleep(awaited->system_id, &ticks);
     return seconds < (is_patient ? stall_seconds : LATE_SECONDS) ? 0 : "the thread that is due does not come";
 }
@@ -345,14 +368,16 @@ void take_turn(thread *t) {
         if (!recording || HOLDER(word) == NAME(t) || (look && !IS_PATIENT && may_take_over(t, word, &watch)))
             if (accept(t, word, watch.doubts)) break;
         if (look && is_replaying) leave_late_replay(t, word, &late);
-        look = syscall(SYS_futex, &t->wakes, FUTEX_WAIT_PRIVATE, wakes, &patience, 0, 0) && errno == ETIMEDOUT;
+        look = syscall(SYS_futex, &t->wakes, FUTEX_WAIT_PRIVATE, wakes, &patience, 0, 0)
+            && errno == ETIMEDOUT;
     }
     t->quantum = is_replaying ? steps_to_go(t) + 1 : draw_slice();
     errno = saved;
 }
 
-/* Lets another thread run a slice, which may give back the lock that t wants: who slept in the system for it would mostly come
-   too late.  Not where nobody wants the turn, nor where slices are long: there to sleep costs less. */
+/* Lets another thread run a slice, which may give back the lock that t wants: who slept in the system for it
+   would mostly come too late.  Not where nobody wants the turn, nor where slices are long: there to sleep
+   costs less. */
 int let_another_run(thread *t) {
     if (!recording) return 0;
     int gives = is_replaying ? --t->quantum <= 0 : waiters && are_slices_short();
@@ -362,7 +387,8 @@ int let_another_run(thread *t) {
     return gives;
 }
 
-/* After a call that was made with the turn and may have slept: a step, so that a replay can give the turn up where it was lost. */
+/* After a call that was made with the turn and may have slept: a step, so that a replay can give the turn up
+   where it was lost. */
 void keep_turn_after_call(thread *t) {
     if (is_replaying && --t->quantum <= 0) give_turn(t);
     else t->steps++;
@@ -420,9 +446,11 @@ void end_inside(thread *t) {
     if (t->is_cancelled_anywhere) pthread_setcancelstate(t->cancel_state, 0);
 }
 
-/* At the end of a hook: the next ones may be quick until the slice ends, or where nobody waits, for a while. */
+/* At the end of a hook: the next ones may be quick until the slice ends, or where nobody waits, for
+   a while. */
 static void let_be_quick(thread *t) {
-    uint64_t most = t->is_cancelled_anywhere ? 0 : begin_quick(t), left = t->quantum > 1 ? (uint64_t)(t->quantum - 1) * quick_share() : 0;
+    uint64_t most = t->is_cancelled_anywhere ? 0 : begin_quick(t),
+        left = t->quantum > 1 ? (uint64_t)(t->quantum - 1) * quick_share() : 0;
     if (!left && !waiters && !is_replaying) left = LEAST_LAST_SLICE;
     if (left > most) left = most;
     t->limit = left ? t->steps + left : 0;
@@ -460,7 +488,8 @@ void leave(thread *t) {
     end_inside(t);
 }
 
-/* A loop that makes one read again and again, or an update that leaves the value as it is, waits for another thread: that one shall run. */
+/* A loop that makes one read again and again, or an update that leaves the value as it is, waits for another
+   thread: that one shall run. */
 void note_spin(thread *t, uint64_t last) {
     if (t->last != last) {
         t->last = last;
@@ -510,7 +539,8 @@ int end_turns(void) {
     return was;
 }
 
-/* ---- the memory of threads: that of one which is over is used again, for a waiter may still look into it ---- */
+/* ---- the memory of threads: that of one which is over is used again, for a waiter may still look into
+   it ---- */
 static thread *ended;                  /* a list; with the turn */
 
 /* With the turn, so no word of the turn names it from here on. */
@@ -575,7 +605,8 @@ thread *thread_of(pthread_t handle) {  /* asked before a join: a handle is used 
 thread *newest_with(void *argument) {  /* of what it runs; with the turn */
     thread *newest = 0;
     for (uint32_t i = 0; i < thread_count; i++)
-        if (threads[i]->argument == argument && !threads[i]->is_over && (!newest || threads[i]->serial > newest->serial)) newest = threads[i];
+        if (threads[i]->argument == argument && !threads[i]->is_over
+            && (!newest || threads[i]->serial > newest->serial)) newest = threads[i];
     return newest;
 }
 

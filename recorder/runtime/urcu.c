@@ -1,8 +1,10 @@
-/* liburcu, where a program calls its functions (without _LGPL_SOURCE): for each flavour, `memb` as an example. */
+/* liburcu, where a program calls its functions (without _LGPL_SOURCE): for each flavour, `memb` as
+   an example. */
 #include "libraries.h"
 
-/* What was done in a reader's section before the end of a wait for readers comes before what is done after it; and what was done before its
-   beginning before what sections do that begin later. Both are the same for all flavours: that is more order, where a program uses two. */
+/* What was done in a reader's section before the end of a wait for readers comes before what is done after
+   it; and what was done before its beginning before what sections do that begin later. Both are the same for
+   all flavours: that is more order, where a program uses two. */
 static char readers, writers;
 
 #define BEGINS_READING(name) \
@@ -51,8 +53,9 @@ BEGINS_READING(urcu_qsbr_thread_online)
 BEGINS_READING(urcu_qsbr_register_thread)
 ENDS_READING(urcu_qsbr_unregister_thread)
 
-/* ---- pointers: who reads one comes after who made it known. Of a reader the value alone is known here. Values that share a byte here
-   share their order; the block itself is none of it, for that would be a use of the block ---- */
+/* ---- pointers: who reads one comes after who made it known. Of a reader the value alone is known here.
+   Values that share a byte here share their order; the block itself is none of it, for that would be a use of
+   the block ---- */
 static char values[1 << 12];
 static char *of_value(void *value) { return &values[((uint64_t)value >> 4) % sizeof values]; }
 

@@ -36,13 +36,16 @@ BLOCKS(int, pause, (void), ())
 BLOCKS(int, poll, (struct pollfd *p, nfds_t n, int ms), (p, n, ms))
 BLOCKS(int, ppoll, (struct pollfd *p, nfds_t n, deadline d, const sigset_t *m), (p, n, d, m))
 BLOCKS(int, select, (int n, fd_set *a, fd_set *b, fd_set *c, struct timeval *d), (n, a, b, c, d))
-BLOCKS(int, pselect, (int n, fd_set *a, fd_set *b, fd_set *c, deadline d, const sigset_t *m), (n, a, b, c, d, m))
+BLOCKS(int, pselect, (int n, fd_set *a, fd_set *b, fd_set *c, deadline d, const sigset_t *m),
+       (n, a, b, c, d, m))
 BLOCKS(int, flock, (int f, int operation), (f, operation))
 
 /* As the compiler calls them with -D_FORTIFY_SOURCE. */
-int __poll_chk(struct pollfd *, nfds_t, int, size_t), __ppoll_chk(struct pollfd *, nfds_t, deadline, const sigset_t *, size_t);
+int __poll_chk(struct pollfd *, nfds_t, int, size_t),
+    __ppoll_chk(struct pollfd *, nfds_t, deadline, const sigset_t *, size_t);
 BLOCKS(int, __poll_chk, (struct pollfd *p, nfds_t n, int ms, size_t room), (p, n, ms, room))
-BLOCKS(int, __ppoll_chk, (struct pollfd *p, nfds_t n, deadline d, const sigset_t *m, size_t room), (p, n, d, m, room))
+BLOCKS(int, __ppoll_chk, (struct pollfd *p, nfds_t n, deadline d, const sigset_t *m, size_t room),
+       (p, n, d, m, room))
 
 /* ---- for processes and for signals ---- */
 BLOCKS(pid_t, wait, (int *s), (s))
@@ -55,7 +58,8 @@ BLOCKS(int, sigwait, (const sigset_t *m, int *s), (m, s))
 BLOCKS(int, sigwaitinfo, (const sigset_t *m, siginfo_t *s), (m, s))
 BLOCKS(int, sigtimedwait, (const sigset_t *m, siginfo_t *s, deadline d), (m, s, d))
 
-/* ---- System V's semaphores, and queues: what gives comes before what takes, as with POSIX' semaphores ---- */
+/* ---- System V's semaphores, and queues: what gives comes before what takes, as with POSIX'
+   semaphores ---- */
 enum { GIVES = 1, TAKES = 2 };
 
 static int effect_of(const struct sembuf *p, size_t n) {     /* to wait for 0 is to take */
@@ -73,7 +77,8 @@ static unsigned queue_of(mqd_t q) {
     return syscall(SYS_fstat, q, &status) ? 0 : status.st_ino;
 }
 
-#define IN_KERNEL(kind, number) ((void *)(FIRST_DESCRIPTOR + (kind##ul << KIND_OF_OBJECT) + (uint64_t)(unsigned)(number) * 16))
+#define IN_KERNEL(kind, number) \
+    ((void *)(FIRST_DESCRIPTOR + (kind##ul << KIND_OF_OBJECT) + (uint64_t)(unsigned)(number) * 16))
 #define GIVES_AND_TAKES(type, name, effect_, object_, parameters, arguments) \
     PUBLIC type name parameters { \
         int effect = others && recording ? effect_ : 0; \
@@ -84,14 +89,19 @@ static unsigned queue_of(mqd_t q) {
         if (effect & TAKES && r >= 0) note(OP_WAIT, object, CALLER); \
         return r; \
     }
-#define CHANGES(name, parameters, arguments) GIVES_AND_TAKES(int, name, effect_of(p, n), IN_KERNEL(1, s), parameters, arguments)
+#define CHANGES(name, parameters, arguments) \
+    GIVES_AND_TAKES(int, name, effect_of(p, n), IN_KERNEL(1, s), parameters, arguments)
 CHANGES(semop, (int s, struct sembuf *p, size_t n), (s, p, n))
 CHANGES(semtimedop, (int s, struct sembuf *p, size_t n, deadline d), (s, p, n, d))
 GIVES_AND_TAKES(int, msgsnd, GIVES, IN_KERNEL(2, q), (int q, const void *p, size_t n, int o), (q, p, n, o))
-GIVES_AND_TAKES(ssize_t, msgrcv, TAKES, IN_KERNEL(2, q), (int q, void *p, size_t n, long kind, int o), (q, p, n, kind, o))
-#define SENDS(name, parameters, arguments) GIVES_AND_TAKES(int, name, GIVES, IN_KERNEL(3, queue_of(q)), parameters, arguments)
-#define RECEIVES(name, parameters, arguments) GIVES_AND_TAKES(ssize_t, name, TAKES, IN_KERNEL(3, queue_of(q)), parameters, arguments)
+GIVES_AND_TAKES(ssize_t, msgrcv, TAKES, IN_KERNEL(2, q), (int q, void *p, size_t n, long kind, int o),
+                (q, p, n, kind, o))
+#define SENDS(name, parameters, arguments) \
+    GIVES_AND_TAKES(int, name, GIVES, IN_KERNEL(3, queue_of(q)), parameters, arguments)
+#define RECEIVES(name, parameters, arguments) \
+    GIVES_AND_TAKES(ssize_t, name, TAKES, IN_KERNEL(3, queue_of(q)), parameters, arguments)
 SENDS(mq_send, (mqd_t q, const char *p, size_t n, unsigned priority), (q, p, n, priority))
 SENDS(mq_timedsend, (mqd_t q, const char *p, size_t n, unsigned priority, deadline d), (q, p, n, priority, d))
 RECEIVES(mq_receive, (mqd_t q, char *p, size_t n, unsigned *priority), (q, p, n, priority))
-RECEIVES(mq_timedreceive, (mqd_t q, char *p, size_t n, unsigned *priority, deadline d), (q, p, n, priority, d))
+RECEIVES(mq_timedreceive, (mqd_t q, char *p, size_t n, unsigned *priority, deadline d),
+         (q, p, n, priority, d))

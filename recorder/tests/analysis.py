@@ -1,8 +1,9 @@
 """The races of a record, by a slow analysis of what its entries are, apart from the converter and from `shb`.
 
-README.md has what each entry means. Memory is looked at byte by byte, each with the block that it is in; an access's bytes come one after
-the other. A race is between two accesses of which neither need come first: the order is that of each thread, of what is passed on by locks,
-atomics, semaphores, forks and joins, and from the last write of a byte to whoever reads it.
+README.md has what each entry means. Memory is looked at byte by byte, each with the block that it is in; an
+access's bytes come one after the other. A race is between two accesses of which neither need come first: the
+order is that of each thread, of what is passed on by locks, atomics, semaphores, forks and joins, and from
+the last write of a byte to whoever reads it.
 """
 
 import collections
@@ -11,7 +12,8 @@ import typing
 GRAIN = 16  # what an allocation covers begins and ends at multiples of it
 MOST_FREED = 1024
 RELAXED, RELEASE = 0, 3  # memory orders; from RELEASE on each releases, and all others than these two acquire
-USES = {"LOCK", "UNLOCK", "READ_LOCK", "WRITE_LOCK", "RW_UNLOCK", "POST", "WAIT", "ARRIVE", "USE"}  # read the first byte
+# read the first byte
+USES = {"LOCK", "UNLOCK", "READ_LOCK", "WRITE_LOCK", "RW_UNLOCK", "POST", "WAIT", "ARRIVE", "USE"}
 
 
 class Step(typing.NamedTuple):
@@ -55,8 +57,8 @@ class Atomic:
 
 
 class Barrier:
-    """`rounds` are the clocks of its rounds, and `round_of` has those that threads are in. A barrier with more users than
-    its count, or with several counts, has one round."""
+    """`rounds` are the clocks of its rounds, and `round_of` has those that threads are in. A barrier with
+    more users than its count, or with several counts, has one round."""
 
     def __init__(self):
         self.counts, self.users, self.arrivals, self.round_of = set(), set(), 0, {}
@@ -69,14 +71,19 @@ class Barrier:
 
 
 class Analysis:
-    """`races` has for each two places, that of the first access first, the bytes that race there, as (number of the block, address)."""
+    """`races` has for each two places, that of the first access first, the bytes that race there, as (number
+    of the block, address)."""
 
     def __init__(self, steps):
         self.threads, self.count = {0: 0}, 1  # by number: the thread that has it now
         self.clocks = collections.defaultdict(dict)
-        self.blocks, self.accesses, self.writes, self.atomic_writes = [], collections.defaultdict(list), {}, collections.defaultdict(dict)
-        self.locks, self.atomics, self.posts = collections.defaultdict(dict), collections.defaultdict(Atomic), collections.defaultdict(list)
-        self.writers, self.writer_gave, self.readers_gave = {}, collections.defaultdict(dict), collections.defaultdict(dict)
+        self.blocks, self.accesses, self.writes, self.atomic_writes = (
+            [], collections.defaultdict(list), {}, collections.defaultdict(dict))
+        self.locks, self.atomics, self.posts = (collections.defaultdict(dict),
+                                                collections.defaultdict(Atomic),
+                                                collections.defaultdict(list))
+        self.writers, self.writer_gave, self.readers_gave = (
+            {}, collections.defaultdict(dict), collections.defaultdict(dict))
         self.noted, self.fenced = collections.defaultdict(list), set()
         self.races = collections.defaultdict(set)
         self.barriers = collections.defaultdict(Barrier)
@@ -99,8 +106,8 @@ class Analysis:
             self.access_byte(t, step.place, kind, (self.block_at(at).number, at))
 
     def access_byte(self, t, place, kind, byte):
-        """A read sees the last plain write; a plain one also the last atomic write of each thread. An atomic access races with plain
-        writes, and an atomic write with plain reads."""
+        """A read sees the last plain write; a plain one also the last atomic write of each thread. An atomic
+        access races with plain writes, and an atomic write with plain reads."""
         clock = self.clocks[t]
         self.look(t, place, byte, {"r": "w", "w": "rwla", "l": "w", "a": "w"}[kind])
         if kind != "w":
@@ -120,7 +127,8 @@ class Analysis:
 
     def look(self, t, place, byte, kinds, writer=None):
         for one in self.accesses[byte]:
-            if one.kind in kinds and one.thread != t and writer in (None, one.thread) and self.clocks[t].get(one.thread, 0) < one.time:
+            if (one.kind in kinds and one.thread != t and writer in (None, one.thread)
+                and self.clocks[t].get(one.thread, 0) < one.time):
                 self.races[one.place, place].add(byte)
 
     def read(self, step, t):

@@ -1,6 +1,7 @@
 #!/usr/bin/env python3
-"""The second reader of facts over every program of the tests, or others: each is built and recorded once, and each fact of its pages is read
-again. It takes a quarter of an hour, so the gate doesn't run it; ends with the line 'N facts confirmed, N refused'.
+"""The second reader of facts over every program of the tests, or others: each is built and recorded once, and
+each fact of its pages is read again. It takes a quarter of an hour, so the gate doesn't run it; ends with the
+line 'N facts confirmed, N refused'.
 
     by_hand_facts.py SHB [FILE..]
 
@@ -28,7 +29,8 @@ def facts_in(results):
     for fact, pairs in facts_reader.groups_of(document):
         by[fact["trace"]].append((fact, pairs))
     for trace, groups in by.items():
-        reader = facts_reader.Reader(*((results / trace).with_suffix(suffix).read_bytes() for suffix in (".std", ".stacks", ".uses")))
+        reader = facts_reader.Reader(
+            *((results / trace).with_suffix(suffix).read_bytes() for suffix in (".std", ".stacks", ".uses")))
         for fact, pairs in groups:
             yield fact["form"], list(reader.faults([(fact, pairs)]))
 
@@ -37,9 +39,11 @@ def record(source, folder):
     """Builds and records a program, and gives the folder of its results, or None."""
     compiler = "gcc" if source.suffix == ".c" else "g++"
     more = ["-fopenmp"] * ("omp" in source.read_text(errors="replace"))
-    if recorder.call(compiler, "-w", "-g", "-O1", "-fsanitize=thread", "-pthread", *more, source, "-o", folder / "program", "-ldl").returncode:
+    if recorder.call(compiler, "-w", "-g", "-O1", "-fsanitize=thread", "-pthread", *more, source, "-o",
+                     folder / "program", "-ldl").returncode:
         return None
-    recorder.call("timeout", "-k", "5", "60", recorder.COMMAND, "-o", folder / "results", folder / "program", cwd=folder,
+    recorder.call("timeout", "-k", "5", "60", recorder.COMMAND, "-o", folder / "results", folder / "program",
+                  cwd=folder,
                   env={**os.environ, "SHB": str(recorder.SHB)})
     return folder / "results" if (folder / "results" / "places.json").exists() else None
 
@@ -47,7 +51,8 @@ def record(source, folder):
 def main(shb, *files):
     recorder.SHB = pathlib.Path(shb).resolve()
     named = [pathlib.Path(file).resolve() for file in files]
-    sources = named or [path for name in ("programs", "blamed", "remedied") for path in sorted((HERE / name).glob("*.c*"))]
+    sources = named or [path for name in ("programs", "blamed", "remedied")
+                        for path in sorted((HERE / name).glob("*.c*"))]
     forms, refused = collections.Counter(), 0
     with tempfile.TemporaryDirectory() as room:
         recorder.build_recorder(pathlib.Path(room))

@@ -7,24 +7,26 @@ A program is a word for each thread; its letters are
 Properties, in every state:
   window    no thread is between its record and its access while another writes a record or makes an access
   record    no access without its record while the recording is on
-  wake      no thread sleeps on its futex while the turn names it, nobody has it, or the recording has ended, unless
-            some thread is on its way to wake it: no hand-over needs a timeout
+  wake      no thread sleeps on its futex while the turn names it, nobody has it, or the recording has ended,
+            unless some thread is on its way to wake it: no hand-over needs a timeout
   listed    a thread stands among the waiters once from its first step in take_turn to its last, else never
   due       while a list of turns is followed nobody has the turn but the thread of its next entry
-  turn      by the list of turns that is written each record is made in the turn in which it was made, and a turn by a list that
-            is followed ends after as many steps as that says
+  turn      by the list of turns that is written each record is made in the turn in which it was made, and a
+            turn by a list that is followed ends after as many steps as that says
   quick     nobody is named as the quick holder but who has the turn
   end       from every state the end of all threads can be reached
-The steps are those at which threads meet: each load, store and swap of the turn and of a thread's wakes, the guard's
-lock, the futex calls, the look at the holder. The count in the turn's word is not stored: a thread's view of the word
-is fresh until the word changes and never again, for counts don't return; likewise its view of its wakes. A look may
-say yes wherever the holder isn't between the swap in enter, put or take_turn and its access: more often than turn.c says it.
+The steps are those at which threads meet: each load, store and swap of the turn and of a thread's wakes, the
+guard's lock, the futex calls, the look at the holder. The count in the turn's word is not stored: a thread's
+view of the word is fresh until the word changes and never again, for counts don't return; likewise its view
+of its wakes. A look may say yes wherever the holder isn't between the swap in enter, put or take_turn and its
+access: more often than turn.c says it.
 
-A hook of the quick holder raises no count. A waiter doubts in two steps: it takes the name away, which that thread may see at
-once or not; and makes a barrier, after which it does. At a later look it goes on doubting or ends it: at more looks than turn.c.
+A hook of the quick holder raises no count. A waiter doubts in two steps: it takes the name away, which that
+thread may see at once or not; and makes a barrier, after which it does. At a later look it goes on doubting
+or ends it: at more looks than turn.c.
 
-A replay has a list of turns too: pairs of a thread and the number of steps (hooks, and calls that may block) after which it
-loses the turn. A waiter may leave it at each of its looks: sooner than turn.c does.
+A replay has a list of turns too: pairs of a thread and the number of steps (hooks, and calls that may block)
+after which it loses the turn. A waiter may leave it at each of its looks: sooner than turn.c does.
 """
 
 import typing
@@ -32,10 +34,13 @@ import typing
 NONE = -1
 PROGRAMS = ["hqsh h", "hhh hhh", "hbh hsh", "hch hbh", "hsb hcb", "hxh hbh", "h h h", "h s b"]
 REPLAYS = [("hh hhh", ((0, 1), (1, 2), (0, 3), (1, 4))), ("hb hbh", ((1, 1), (0, 2), (1, 2), (0, 3), (1, 4))),
-           ("hsh hc", ((0, 1), (1, 1), (0, 3), (1, 2))), ("hxh hb", ((0, 2), (1, 2))), ("hqhh h", ((0, 3), (1, 1), (0, 4))),
-           ("hh hb", ((1, 3), (0, 1), (1, 9))), ("hb hh", ((0, 1), (0, 2), (1, 0), (0, 9)))]  # the last two don't fit
+           ("hsh hc", ((0, 1), (1, 1), (0, 3), (1, 2))), ("hxh hb", ((0, 2), (1, 2))),
+           ("hqhh h", ((0, 3), (1, 1), (0, 4))),
+           # the last two don't fit
+           ("hh hb", ((1, 3), (0, 1), (1, 9))), ("hb hh", ((0, 1), (0, 2), (1, 0), (0, 9)))]
 LONG_REPLAYS = [("hhh hhh", ((0, 1), (1, 2), (0, 4), (1, 4))), ("h b h", ((2, 2), (1, 1), (0, 2), (1, 2)))]
-LONG_PROGRAMS = ["hh b h", "hhhh hhhh", "hbhsh hchbh", "hsxh hbch", "hh hh h", "hs hb h", "hx hb h", "hc hh b", "hb hs hh", "hh hh hh"]
+LONG_PROGRAMS = ["hh b h", "hhhh hhhh", "hbhsh hchbh", "hsxh hbch", "hh hh h", "hs hb h", "hx hb h",
+                 "hc hh b", "hb hs hh", "hh hh hh"]
 
 # Bugs to plant, and the property that each breaks.
 PUT_DOES_NOT_ASK = "put does not ask for the turn again"
@@ -60,9 +65,12 @@ NOT_DUE = "a waiter that isn't due takes a turn that nobody has"
 LEAVES_IT_TO_NOBODY = "who leaves the list gives nobody the turn that nobody has"
 BUGS_OF_REPLAYS = {NOT_DUE, LEAVES_IT_TO_NOBODY, ANY_STEP}
 BUGS = {PUT_DOES_NOT_ASK: "window", PUT_SKIPS: "record", NO_COUNT: "window", TAKES_BLINDLY: "window",
-        WORD_FIRST: "wake", UNLISTED: "wake", NAMED_RUNS: "record", NOT_DUE: "due", LEAVES_IT_TO_NOBODY: "wake",
-        NO_DOUBT: "window", NO_BARRIER: "window", NO_GUARD: "window", ENDS_EARLY: "window", ONE_DOUBTER: "window",
-        STAYS_NAMED: "quick", LEAVES_HOLDER: "quick", EARLY_STEP: "turn", ONLY_KEPT: "turn", LOST_IN_GROW: "turn", ANY_STEP: "turn"}
+        WORD_FIRST: "wake", UNLISTED: "wake", NAMED_RUNS: "record", NOT_DUE: "due",
+        LEAVES_IT_TO_NOBODY: "wake",
+        NO_DOUBT: "window", NO_BARRIER: "window", NO_GUARD: "window", ENDS_EARLY: "window",
+        ONE_DOUBTER: "window",
+        STAYS_NAMED: "quick", LEAVES_HOLDER: "quick", EARLY_STEP: "turn", ONLY_KEPT: "turn",
+        LOST_IN_GROW: "turn", ANY_STEP: "turn"}
 
 
 NO_LIMIT, ENDED, MAY_BE_QUICK = range(3)  # may its hooks be quick?
@@ -102,7 +110,8 @@ class Broken(Exception):
     """A property that doesn't hold, and where."""
 
 
-WAITING_STEPS = {"read_wakes", "read_word", "doubt", "take_name", "count_doubt", "barrier", "end_doubt", "name_again", "look_at_holder",
+WAITING_STEPS = {"read_wakes", "read_word", "doubt", "take_name", "count_doubt", "barrier", "end_doubt",
+                 "name_again", "look_at_holder",
                  "accept", "swap_in", "leave", "leaving", "wait", "sleep"}
 IN_ITS_ACCESS = {"check", "record", "grow", "access"}
 
@@ -116,7 +125,8 @@ class Step:
         self.first_of_wait = "read_word" if bug == WORD_FIRST else "read_wakes"
 
     def to(self, step, threads=None, changed=False, shared=(), **own):
-        """The state in which this thread is at `step`; `changed`: the turn's word, so that all views of it are old."""
+        """The state in which this thread is at `step`; `changed`: the turn's word, so that all views of
+        it are old."""
         threads = list(threads or self.state.threads)
         if changed:
             threads = [thread._replace(word=False) for thread in threads]
@@ -146,7 +156,8 @@ class Step:
         return thread.steps if thread.limit == MAY_BE_QUICK and self.bug != ONLY_KEPT else thread.kept
 
     def has_ended(self, number):
-        return (self.state.threads[number].steps if self.bug == ANY_STEP else self.steps_in_turns(number)) >= self.state.turns[0][1]
+        return (self.state.threads[number].steps if self.bug == ANY_STEP
+                else self.steps_in_turns(number)) >= self.state.turns[0][1]
 
     def is_due_to_give(self):
         return bool(self.state.turns) and self.thread.steps >= self.state.turns[0][1]
@@ -162,7 +173,8 @@ class Step:
     def begun(self):
         """What changes in the lists when this thread has got the turn."""
         turns, runs = self.state.turns, self.state.runs
-        if runs not in (NONE, self.number) and BUGS.get(self.bug, "turn") == "turn":  # other bugs are to be found by a worse effect
+        # other bugs are to be found by a worse effect
+        if runs not in (NONE, self.number) and BUGS.get(self.bug, "turn") == "turn":
             self.check_entry(runs)
         return {"runs": self.number, "turns": turns[1:] if turns and turns[0][0] != self.number else turns}
 
@@ -172,7 +184,8 @@ class Step:
         if steps != thread.made:
             raise Broken(f"turn: thread {number} has made {thread.made} records, its turn ends after {steps}")
         if turns and turns[0][0] == number and turns[0][1] != steps:
-            raise Broken(f"turn: thread {number} has had the turn for {steps} steps, it was to end after {turns[0][1]}")
+            raise Broken(f"turn: thread {number} has had the turn for {steps} steps, it was to end after "
+                         f"{turns[0][1]}")
 
     def given(self):
         """The list when it has given the turn."""
@@ -200,7 +213,8 @@ class Step:
         if letter in "hq" and not (letter == "q" and self.is_named()):
             yield from self.hook()
         if letter in "bxsc":
-            step, after = {"b": ("give", "blocked"), "x": ("stop", ""), "s": ("away", ""), "c": ("away", "")}[letter]
+            step, after = {"b": ("give", "blocked"), "x": ("stop", ""), "s": ("away", ""),
+                           "c": ("away", "")}[letter]
             yield self.to(step, after=after, **self.slow())
 
     def is_named(self):
@@ -224,7 +238,8 @@ class Step:
     def blocked(self):
         yield self.to("take", after="check")
 
-    # keep_turn, in enter, or where that has none (enter_access) in put; where both have it the second changes nothing
+    # keep_turn, in enter, or where that has none (enter_access) in put; where both have it the second
+    # changes nothing
     def keep(self):
         yield from self.ask("check")
 
@@ -241,11 +256,13 @@ class Step:
         if is_quick or self.thread.sees_name:
             yield self.to(after, after="", **self.with_turn())
         if not is_quick:
-            yield self.to("raise_count", after=after, word=True) if self.has_turn() else self.to("take", after=after)
+            yield (self.to("raise_count", after=after, word=True) if self.has_turn()
+                   else self.to("take", after=after))
 
     def raise_count(self):
         if self.thread.word:
-            yield self.to(self.thread.after, after="", word=False, changed=self.bug != NO_COUNT, **self.with_turn())
+            yield self.to(self.thread.after, after="", word=False, changed=self.bug != NO_COUNT,
+                          **self.with_turn())
         else:
             yield self.to("take")
 
@@ -269,8 +286,10 @@ class Step:
 
     def in_window(self, **own):
         if self.state.window != NONE:
-            raise Broken(f"window: thread {self.number} records, thread {self.state.window} has yet to make its access")
-        return self.to("access", made=own.get("steps", self.thread.steps), shared={"window": self.number}, **own)
+            raise Broken(f"window: thread {self.number} records, thread {self.state.window} has yet to make "
+                         "its access")
+        return self.to("access", made=own.get("steps", self.thread.steps), shared={"window": self.number},
+                       **own)
 
     def access(self):
         if self.state.window != self.number:
@@ -294,12 +313,14 @@ class Step:
         own = {**self.with_turn(), "steps": steps, "sees_name": False}
         turns = self.given()
         candidates = waiting & {turns[0][0]} if turns else waiting
-        given = {"guard": NONE, "turns": turns, **({} if self.bug == STAYS_NAMED else self.name(NONE, self.state.doubters))}
+        given = {"guard": NONE, "turns": turns,
+                 **({} if self.bug == STAYS_NAMED else self.name(NONE, self.state.doubters))}
         if not candidates:
             yield self.to(after, after="", changed=True, shared={**given, "holder": NONE}, **own)
         for next in candidates:
             left = waiting - {next} if self.bug in (UNLISTED, NAMED_RUNS) else waiting
-            yield self.to("raise_wakes", changed=True, target=next, shared={**given, "holder": next, "waiting": left}, **own)
+            yield self.to("raise_wakes", changed=True, target=next,
+                          shared={**given, "holder": next, "waiting": left}, **own)
 
     def raise_wakes(self):
         threads = list(self.state.threads)
@@ -314,7 +335,8 @@ class Step:
 
     def woken(self, thread):
         if self.bug == NAMED_RUNS:
-            return thread._replace(step=thread.after, after="", word=False, wakes=False, look=False, doubts=False)
+            return thread._replace(step=thread.after, after="", word=False, wakes=False, look=False,
+                                   doubts=False)
         return thread._replace(step=self.first_of_wait, look=False)
 
     # take_turn
@@ -365,13 +387,15 @@ class Step:
         if self.bug == NO_GUARD:
             yield self.to("count_doubt", threads, shared={"quick": NONE})
         else:
-            yield self.to("barrier", threads, doubts=True, shared={"guard": NONE, "quick": NONE, "doubters": self.state.doubters + 1})
+            yield self.to("barrier", threads, doubts=True,
+                          shared={"guard": NONE, "quick": NONE, "doubters": self.state.doubters + 1})
 
     def count_doubt(self):  # where it is a step of its own
         yield self.to("barrier", doubts=True, shared={"doubters": self.state.doubters + 1})
 
     def barrier(self):
-        threads = self.state.threads if self.bug == NO_BARRIER else [thread._replace(sees_name=False) for thread in self.state.threads]
+        threads = (self.state.threads if self.bug == NO_BARRIER
+                   else [thread._replace(sees_name=False) for thread in self.state.threads])
         yield self.to("look_at_holder", threads, word=True)
 
     def end_doubt(self):
@@ -379,7 +403,8 @@ class Step:
 
     def name_again(self):
         after = "accept" if self.bug == ENDS_EARLY else self.before_sleep()
-        yield self.to(after, doubts=False, shared={"guard": NONE, **self.without_doubt(self.state.accepted, self.state.on)})
+        yield self.to(after, doubts=False,
+                      shared={"guard": NONE, **self.without_doubt(self.state.accepted, self.state.on)})
 
     def before_sleep(self):
         return "read_wakes" if self.bug == WORD_FIRST else "wait"
@@ -418,7 +443,8 @@ class Step:
         else:
             for next in self.state.waiting:
                 own = {"wakes": False} if next == self.number else {}
-                yield self.to(self.before_sleep(), self.with_woken(next), changed=True, shared={**left, "holder": next}, **own)
+                yield self.to(self.before_sleep(), self.with_woken(next), changed=True,
+                              shared={**left, "holder": next}, **own)
 
     def with_woken(self, *waiters):
         threads = list(self.state.threads)
@@ -455,14 +481,16 @@ def check(state, bug):
         raise Broken(f"due: thread {state.holder} has the turn of thread {state.turns[0][0]}")
     for number, thread in enumerate(state.threads):
         is_free = state.holder == NONE and (not state.turns or state.turns[0][0] == number)
-        if thread.step == "sleep" and number not in waking and (state.holder == number or is_free or not state.on):
+        if (thread.step == "sleep" and number not in waking
+            and (state.holder == number or is_free or not state.on)):
             raise Broken(f"wake: thread {number} sleeps and only a timeout wakes it")
         if (number in state.waiting) != (thread.step in WAITING_STEPS) and bug != UNLISTED:
             raise Broken(f"listed: thread {number} at {thread.step}")
 
 
 def search(program, bug="", turns=()):
-    """Searches all states of a program, and gives their number; raises Broken at the first that breaks a property."""
+    """Searches all states of a program, and gives their number; raises Broken at the first that
+    breaks a property."""
     start = State(tuple(Thread() for _ in program), turns=turns)
     numbers, before, todo, ends = {start: 0}, [[]], [start], []
     while todo:

@@ -30,13 +30,15 @@ def call(*words, **how):
 def must(answer):
     """The answer of a command that has to succeed."""
     if answer.returncode:
-        raise AssertionError(f"{answer.args}: status {answer.returncode}\n{answer.stderr.decode(errors='replace')}")
+        raise AssertionError(f"{answer.args}: status "
+                             f"{answer.returncode}\n{answer.stderr.decode(errors='replace')}")
     return answer
 
 
 def put_commands(folder):
     """Copies the commands and their packages into a folder, where they look for the recorder beside them."""
-    shutil.copytree(PYTHON, folder / "python", ignore=shutil.ignore_patterns("tests", "__pycache__"), dirs_exist_ok=True)
+    shutil.copytree(PYTHON, folder / "python", ignore=shutil.ignore_patterns("tests", "__pycache__"),
+                    dirs_exist_ok=True)
     return folder / "python" / "shb-record"
 
 
@@ -52,25 +54,30 @@ def build_recorder(folder, *settings):
 
 
 def sanitized(folder, compiler="gcc"):
-    """The converter and its reader of modules, built so that they end at the first access that isn't allowed."""
+    """The converter and its reader of modules, built so that they end at the first access
+    that isn't allowed."""
     flags = ["-g", "-O1", "-fsanitize=address,undefined", "-fno-sanitize-recover=all"]
     must(call(compiler, *flags, *sorted(SOURCES.glob("converter/*.c")), "-o", folder / "shb-std"))
-    must(call(compiler, *flags, *sorted(SOURCES.glob("reader/*.c")), SOURCES / "converter/tables.c", "-ldw", "-lelf", "-o", folder / "module-reader"))
+    must(call(compiler, *flags, *sorted(SOURCES.glob("reader/*.c")), SOURCES / "converter/tables.c", "-ldw",
+              "-lelf", "-o", folder / "module-reader"))
     return folder / "shb-std"
 
 
 def build(source, option, program, built=None):
     """Builds a program that is to be recorded, as the README says."""
     compiler = "g++" if source.suffix == ".cc" else "gcc"
-    words = ["-w", "-g", option, "-fsanitize=thread", "-pthread", f"-B{built or BUILT}/lib/", source, "-o", program]
+    words = ["-w", "-g", option, "-fsanitize=thread", "-pthread", f"-B{built or BUILT}/lib/", source, "-o",
+             program]
     must(call(compiler, *words, *["-fopenmp"] * source.name.startswith("openmp")))
 
 
 def two_of_one_name(folder):
-    """The sources of a program with two files of one name, in new folders: each thread has a race with main's."""
-    texts = {"main.c": "#include <pthread.h>\nvoid *a(void *), *b(void *);\nint one, two;\nint main(int count, char **words) {\n"
-                       "    pthread_t t, u;\n    pthread_create(&t, 0, a, 0);\n    if (count < 2) pthread_create(&u, 0, b, 0);\n"
-                       "    one = two = 1;\n    pthread_join(t, 0);\n    return count < 2 && pthread_join(u, 0);\n}\n",
+    """The sources of a program with two files of one name, in new folders: each thread has a
+    race with main's."""
+    texts = {"main.c": "#include <pthread.h>\nvoid *a(void *), *b(void *);\nint one, two;\nint main(int "
+                       "count, char **words) {\n    pthread_t t, u;\n    pthread_create(&t, 0, a, 0);\n    "
+                       "if (count < 2) pthread_create(&u, 0, b, 0);\n    one = two = 1;\n    pthread_join(t, "
+                       "0);\n    return count < 2 && pthread_join(u, 0);\n}\n",
              "a/util.c": "extern int one;\n\nvoid *a(void *x) { one = 2; return 0; }\n",
              "b/util.c": "extern int two;\n\nvoid *b(void *x) { two = 2; return 0; }\n"}
     for name, text in texts.items():
@@ -97,28 +104,39 @@ def convert(path, *options):
 
 
 def listed(record, page, converter=None):
-    """The places of a record's trace, each with its two locations in order and a variable; the page's trace of these is
-    written to a file, or none. It has both accesses of each listed race where the file of uses says."""
+    """The places of a record's trace, each with its two locations in order and a variable; the page's trace
+    of these is written to a file, or none. It has both accesses of each listed race where the file of uses
+    says."""
     uses = page.with_suffix(".uses")
-    words = [str(word) for word in (converter or BUILT / "shb-std", "--list", "--only", "/dev/stdin", "--page", page, "--uses", uses, record)]
-    with subprocess.Popen(words, stdin=subprocess.PIPE, stdout=subprocess.PIPE, stderr=subprocess.PIPE) as ran:
+    words = [str(word)
+             for word in (converter or BUILT / "shb-std", "--list", "--only", "/dev/stdin", "--page", page,
+                          "--uses", uses, record)]
+    with subprocess.Popen(words, stdin=subprocess.PIPE, stdout=subprocess.PIPE,
+                          stderr=subprocess.PIPE) as ran:
         listed = must(call(SHB, "places", "--list", "--variables", stdin=ran.stdout)).stdout
-        found = re.findall(rb"^race \d+: (\d+) (\d+)\nfirst (.*?\|[rw]\((.*?)\)\|(.*))\nsecond (.*?\|[rw]\(.*?\)\|(.*))$", listed, re.M)
-        ran.communicate(b"".join(b"%b %b %b\n" % (first, second, name) for first, second, _, name, _, _, _ in found))
+        found = re.findall(rb"^race \d+: (\d+) (\d+)\nfirst (.*?\|[rw]\((.*?)\)\|(.*))\nsecond "
+                           rb"(.*?\|[rw]\(.*?\)\|(.*))$", listed, re.M)
+        ran.communicate(
+            b"".join(b"%b %b %b\n" % (first, second, name) for first, second, _, name, _, _, _ in found))
         if ran.returncode:
             raise AssertionError(f"{words}: status {ran.returncode}")
     lines = page.read_bytes().split(b"\n") if found else []
-    there = {number: lines[int(in_page) - 1] for in_page, number in re.findall(rb"^event\t(\d+)\t(\d+)$", uses.read_bytes(), re.M)} if found else {}
+    there = (
+        {number: lines[int(in_page) - 1]
+         for in_page, number in re.findall(rb"^event\t(\d+)\t(\d+)$", uses.read_bytes(), re.M)} if found
+        else {})
     for first, second, one, _, _, other, _ in found:
         if (there.get(first), there.get(second)) != (one, other):
             raise AssertionError(f"{record}: the page's trace lacks {first} or {second}")
-    return {(tuple(sorted((one.decode(), other.decode()))), name.decode()) for _, _, _, name, one, _, other in found}
+    return {(tuple(sorted((one.decode(), other.decode()))), name.decode())
+            for _, _, _, name, one, _, other in found}
 
 
 def part(answer):
     """The answer of the converter where the trace is a part of the run."""
     if answer.returncode != 1:
-        raise AssertionError(f"{answer.args}: status {answer.returncode}\n{answer.stderr.decode(errors='replace')}")
+        raise AssertionError(f"{answer.args}: status "
+                             f"{answer.returncode}\n{answer.stderr.decode(errors='replace')}")
     return answer
 
 

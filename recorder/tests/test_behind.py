@@ -10,7 +10,8 @@ sys.path.insert(0, str(recorder.PYTHON))
 from shb_record import second
 from shb_common.report import Access
 
-# A read of balance without the lock sees what the other thread wrote under it, and so hides the race of tries behind it.
+# A read of balance without the lock sees what the other thread wrote under it, and so hides the race of tries
+# behind it.
 PAY = """#include <pthread.h>
 static long balance, tries;
 static pthread_mutex_t door = PTHREAD_MUTEX_INITIALIZER;
@@ -37,36 +38,44 @@ class Behind(recorder.Case):
     def record(self, name, more, seed, known=KNOWN):
         (self.folder / "pay.c").write_text(PAY % more)
         (self.folder / "known").write_text(known)
-        recorder.must(recorder.call("gcc", "-w", "-g", "-O1", "-fsanitize=thread", "-pthread", self.folder / "pay.c", "-o", self.folder / name))
+        recorder.must(recorder.call("gcc", "-w", "-g", "-O1", "-fsanitize=thread", "-pthread",
+                                    self.folder / "pay.c", "-o", self.folder / name))
         how = recorder.settings("unused", seed, 0, SHB=str(recorder.SHB))
         del how["SHB_RECORD"]
-        ran = recorder.call(recorder.COMMAND, "-o", self.folder / "out", "--known", self.folder / "known", self.folder / name,
+        ran = recorder.call(recorder.COMMAND, "-o", self.folder / "out", "--known", self.folder / "known",
+                            self.folder / name,
                             env=how, cwd=self.folder)
-        return ran.returncode, ran.stderr.decode(), json.loads((self.folder / "out" / "places.json").read_text())
+        return (ran.returncode, ran.stderr.decode(),
+                json.loads((self.folder / "out" / "places.json").read_text()))
 
     def test_a_race_behind_a_known_one(self):
         states = set()
         for seed in range(1, 6):
             status, said, found = self.record("pay", " && ++tries", seed)
             self.assertEqual(status, 66, said)
-            [state] = {place["state"] for place in found["places"] if place["variables"][0]["name"] == "tries"}
+            [state] = {place["state"] for place in found["places"]
+                       if place["variables"][0]["name"] == "tries"}
             states.add(state)
             if state == "unknown":     # no read of this run hides it
                 continue
             self.assertEqual({place["state"] for place in found["places"]}, {"known", "behind"})
             self.assertEqual(found["summary"]["behind"], found["summary"]["unknown"])
-            self.assertIn("   Found behind known races, which were skipped: real if these are harmless.\n", said)
+            self.assertIn("   Found behind known races, which were skipped: real if these are harmless.\n",
+                          said)
             self.assertIn("(behind known races: real if these are harmless), 1 known one skipped;", said)
             self.assertIn("\ttries\n", (self.folder / "out" / "unknown.places").read_text())
-            self.assertIn(": pay.c:5 read what pay.c:7 wrote, in a known race: a second look skipped both\n", said)
+            self.assertIn(": pay.c:5 read what pay.c:7 wrote, in a known race: a second look skipped both\n",
+                          said)
         self.assertIn("behind", states)
 
     def test_nothing_behind_a_known_one(self):
         status, said, found = self.record("alone", "", 1)
-        self.assertEqual((status, found["summary"]["behind"], [place["state"] for place in found["places"]]), (0, 0, ["known"]), said)
+        self.assertEqual((status, found["summary"]["behind"], [place["state"] for place in found["places"]]),
+                         (0, 0, ["known"]), said)
 
     def test_what_is_found_behind_is_known_by_its_own_line(self):
-        status, said, found = self.record("pay", " && ++tries", 1, KNOWN + "pay.c:pay()\tpay.c:pay()\ttries\n")
+        status, said, found = self.record("pay", " && ++tries", 1,
+                                          KNOWN + "pay.c:pay()\tpay.c:pay()\ttries\n")
         self.assertEqual((status, {place["state"] for place in found["places"]}), (0, {"known"}), said)
         self.assertNotIn("no race matched", said)
 
@@ -75,7 +84,8 @@ class Rest(recorder.Case):
     """The trace without the accesses at known places, by hand."""
 
     def test_events_keep_their_numbers(self):
-        lines = [b"A|w(x)|1\n", b"A|acq(l)|2\n", b"A|r(x)|3\n", b"B|w(y)|1\n", b"B|w(x)|1\n", b"B|r(x)|4\n", b"B|rel(l)|5\n"]
+        lines = [b"A|w(x)|1\n", b"A|acq(l)|2\n", b"A|r(x)|3\n", b"B|w(y)|1\n", b"B|w(x)|1\n", b"B|r(x)|4\n",
+                 b"B|rel(l)|5\n"]
         its = second.Second({(b"1", b"x"), (b"3", b"x")}, [])
         out = io.BytesIO()
         its.write_rest(lines, out)
@@ -84,7 +94,8 @@ class Rest(recorder.Case):
 
     def test_reads_of_what_the_first_wrote(self):
         one, other = Access(b"A", b"w", b"x", b"1"), Access(b"B", b"r", b"x", b"2")
-        for lines, seen in (([b"A|w(x)|1\n", b"B|r(x)|2\n"], 1), ([b"A|w(x)|1\n", b"B|w(x)|9\n", b"B|r(x)|2\n"], 0)):
+        for lines, seen in (([b"A|w(x)|1\n", b"B|r(x)|2\n"], 1),
+                            ([b"A|w(x)|1\n", b"B|w(x)|9\n", b"B|r(x)|2\n"], 0)):
             its = second.Second({(b"1", b"x"), (b"2", b"x")}, [((1, len(lines)), (one, other))])
             its.write_rest(lines, io.BytesIO())
             self.assertEqual(its.seen, [(one, other)] * seen)

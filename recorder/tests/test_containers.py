@@ -1,4 +1,5 @@
-"""What the C++ library's functions without hooks do to maps, sets, lists and strings is found in each run, and nothing else."""
+"""What the C++ library's functions without hooks do to maps, sets, lists and strings is found in each run,
+and nothing else."""
 
 import shutil
 
@@ -14,7 +15,8 @@ class Containers(recorder.Case):
     def build(self, source, compiler, *how):
         program = self.folder / "app"
         words = [word.format(recorder.BUILT) for word in compiler[1:]]
-        recorder.must(recorder.call(compiler[0], "-w", "-g", "-fsanitize=thread", "-pthread", *how, source, "-o", program, *words))
+        recorder.must(recorder.call(compiler[0], "-w", "-g", "-fsanitize=thread", "-pthread", *how, source,
+                                    "-o", program, *words))
         return program
 
     def record(self, program, seed, *words):

@@ -24,23 +24,32 @@ class Crash(recorder.Case):
     def test_what_ended_it_and_where(self):
         called = rf", from work {LINES['CALL']}"
         for way, number, said in (
-                ("store", signal.SIGSEGV, rf"SIGSEGV at address 0x40 in thread T1\.work: fail {LINES['STORE']}{called}"),
-                ("atomic", signal.SIGSEGV, rf"SIGSEGV at address 0x40 in thread T1\.work: fail {LINES['ATOMIC']}{called}"),
-                ("quick", signal.SIGSEGV, rf"SIGSEGV at address 0x\w+ in thread T1\.work: add_often {LINES['QUICK']}, from fail {LINES['OFTEN']}{called}"),
-                ("library", signal.SIGSEGV, rf"SIGSEGV at address 0x0 in thread T1\.work: .*fail {LINES['LIBRARY']}{called}"),
-                ("handled", signal.SIGSEGV, rf"SIGSEGV at address 0x40 in thread T1\.work: meet {LINES['HANDLED']}, from signal handler, .*from work crash\.c:\d+"),
+                ("store", signal.SIGSEGV, r"SIGSEGV at address 0x40 in thread T1\.work: fail "
+                                          rf"{LINES['STORE']}{called}"),
+                ("atomic", signal.SIGSEGV, r"SIGSEGV at address 0x40 in thread T1\.work: fail "
+                                           rf"{LINES['ATOMIC']}{called}"),
+                ("quick", signal.SIGSEGV, r"SIGSEGV at address 0x\w+ in thread T1\.work: add_often "
+                                          rf"{LINES['QUICK']}, from fail {LINES['OFTEN']}{called}"),
+                ("library", signal.SIGSEGV, r"SIGSEGV at address 0x0 in thread T1\.work: .*fail "
+                                            rf"{LINES['LIBRARY']}{called}"),
+                ("handled", signal.SIGSEGV, r"SIGSEGV at address 0x40 in thread T1\.work: meet "
+                                            rf"{LINES['HANDLED']}, from signal handler, .*from work "
+                                            r"crash\.c:\d+"),
                 ("divide", signal.SIGFPE, rf"SIGFPE in thread T1\.work: fail crash\.c:\d+{called}"),
                 ("abort", signal.SIGABRT, rf"SIGABRT in thread T1\.work: .*fail crash\.c:\d+{called}"),
-                ("realloc", signal.SIGABRT, rf"SIGABRT in thread T1\.work: .*break_heap {LINES['REALLOC']}, from fail {LINES['HEAP']}{called}"),
+                ("realloc", signal.SIGABRT, rf"SIGABRT in thread T1\.work: .*break_heap {LINES['REALLOC']}, "
+                                            rf"from fail {LINES['HEAP']}{called}"),
                 ("resign", signal.SIGSEGV, rf"SIGSEGV in thread T1\.work: fail {LINES['STORE']}{called}")):
             with self.subTest(way):
                 status, answer, [crash] = self.crashed(way, "--stacks", self.folder / "stacks")
                 self.assertEqual(status, -number)
                 self.assertRegex(crash.decode(), rf"\A{said}\Z")
                 places = recorder.places(answer.stdout)
-                self.assertEqual({line for pair in places for line in pair}, {f"crash.c:{n}" for n in self.racing()})
+                self.assertEqual({line for pair in places for line in pair},
+                                 {f"crash.c:{n}" for n in self.racing()})
                 [facts] = re.findall(rb"(?m)^crash (.*)$", (self.folder / "stacks").read_bytes())
-                self.assertRegex(facts, rf"\AT1\.work\t{number.name}\t({'40|0|[0-9a-f]+000' if 'address' in said else ''})\t\d+\Z".encode())
+                address = "40|0|[0-9a-f]+000" if "address" in said else ""
+                self.assertRegex(facts, rf"\AT1\.work\t{number.name}\t({address})\t\d+\Z".encode())
 
     @staticmethod
     def racing():
@@ -52,7 +61,8 @@ class Crash(recorder.Case):
 
     def test_a_handler_that_goes_on(self):
         """It leaves an atomic operation, and what its thread does behind that is recorded."""
-        behind = {f"crash.c:{n}" for n, line in enumerate(SOURCE.read_text().splitlines(), 1) if "BEHIND" in line}
+        behind = {f"crash.c:{n}" for n, line in enumerate(SOURCE.read_text().splitlines(), 1)
+                  if "BEHIND" in line}
         for way in "recover", "recover-quick":
             with self.subTest(way):
                 status, answer, crashes = self.crashed(way)
@@ -62,9 +72,11 @@ class Crash(recorder.Case):
     def test_the_text_and_the_page_begin_with_it(self):
         program = self.folder / "crash"
         recorder.build(SOURCE, "-O0", program)
-        ran = recorder.call(recorder.COMMAND, program, "store", cwd=self.folder, env={**os.environ, "SHB": str(recorder.SHB)})
+        ran = recorder.call(recorder.COMMAND, program, "store", cwd=self.folder,
+                            env={**os.environ, "SHB": str(recorder.SHB)})
         said = ran.stderr.decode()
-        note = f"The program crashed: SIGSEGV at address 0x40 in thread T1.work: fail {LINES['STORE']}, from work {LINES['CALL']}."
+        note = (f"The program crashed: SIGSEGV at address 0x40 in thread T1.work: fail {LINES['STORE']}, "
+                f"from work {LINES['CALL']}.")
         self.assertEqual((ran.returncode, said.splitlines()[1]), (66, note), said)
         self.assertNotIn("not the whole", said)
         self.assertIn("the program's own status: 139;", said)

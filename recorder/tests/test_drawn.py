@@ -1,6 +1,8 @@
-"""The list of places of `shb-std`'s text has those of a record: of records drawn at random `analysis.py` finds the same, from the entries alone.
+"""The list of places of `shb-std`'s text has those of a record: of records drawn at random `analysis.py`
+finds the same, from the entries alone.
 
-What decides which accesses `shb` is given, and of which variable, is in the converter; so a fault there would be found, which is tested too.
+What decides which accesses `shb` is given, and of which variable, is in the converter; so a fault there would
+be found, which is tested too.
 """
 
 import io
@@ -17,10 +19,12 @@ BLOCK = re.compile(rb"0x[0-9a-f]+#(\d+)(?:\+(\d+))?")
 
 
 class Drawn(test_open.Drawn):
-    """Besides: accesses of any bytes of a few cells, blocks that are freed and allocated again, ends of locks and semaphores,
-    counters; long ranges, large blocks, and barriers, which a thread may leave before others come."""
+    """Besides: accesses of any bytes of a few cells, blocks that are freed and allocated again, ends of locks
+    and semaphores, counters; long ranges, large blocks, and barriers, which a thread may leave before others
+    come."""
 
-    all_words = [words + more for words in test_open.WORDS for more in ("", "B", "BD", "RWBB")] + ["RWGG", "RWGAF"]
+    all_words = ([words + more for words in test_open.WORDS for more in ("", "B", "BD", "RWBB")]
+                 + ["RWGG", "RWGAF"])
     all_words += ["RWN", "NNB", "RRKKK", "WKKKL", "NKKK", "RWTT", "RWTTL", "NTTT"]
     sizes = 1, 2, 3, 4, 8, 16, 24
     large, barrier = 0x9000, 0x7100
@@ -79,7 +83,8 @@ class Drawn(test_open.Drawn):
 
 
 def file_of(drawn, draw):
-    """The record of drawn steps. Some plain accesses of one entry come late, as the recorder's do, and some of these twice."""
+    """The record of drawn steps. Some plain accesses of one entry come late, as the recorder's do, and some
+    of these twice."""
     file, late, order, before = bytearray(), [], 0, None
     for step in drawn.steps:
         written = entry(step.thread, step.operation, step.address, step.place, step.size)
@@ -111,9 +116,13 @@ def draw_record(folder, seed):
 
 
 def listed(path, converter):
-    """By two places: the first bytes of the variables of which `shb places --list` has a race, as (number of the block, address or offset)."""
+    """By two places: the first bytes of the variables of which `shb places --list` has a race, as (number of
+    the block, address or offset)."""
     trace = recorder.must(recorder.call(converter, "--list", path)).stdout
-    report = Report(io.BytesIO(recorder.must(recorder.call(recorder.SHB, "places", "--list", "--variables", input=trace)).stdout))
+    report = Report(
+        io.BytesIO(
+            recorder.must(recorder.call(recorder.SHB, "places", "--list", "--variables",
+                                        input=trace)).stdout))
     found = {}
     for _, (one, other) in report.races():
         name = one.name.partition(b"!")[0]
@@ -124,11 +133,12 @@ def listed(path, converter):
 
 
 def differs(steps, found):
-    """What of these places isn't as the analysis has it, or nothing. A variable is named by its first byte; the bytes behind it that race
-    at the same place are of it too."""
+    """What of these places isn't as the analysis has it, or nothing. A variable is named by its first byte;
+    the bytes behind it that race at the same place are of it too."""
     analysis = Analysis(steps)
     at = {block.number: block.at for block in analysis.blocks}
-    wanted = {place: {(block, byte - at.get(block, 0)) for block, byte in racing} for place, racing in analysis.races.items()}
+    wanted = {place: {(block, byte - at.get(block, 0)) for block, byte in racing}
+              for place, racing in analysis.races.items()}
     if found.keys() != wanted.keys():
         return "places", sorted(found.keys() ^ wanted.keys())
     for place, racing in wanted.items():
@@ -152,7 +162,8 @@ class Decided(recorder.Case):
         few = test_open.planted(self.folder / "few", "records.c", "AT_ONCE = 1 << 16", "AT_ONCE = 3")
         for seed in range(50):
             _, path = draw_record(self.folder, seed)
-            self.assertEqual(recorder.must(recorder.call(few, path)).stdout, recorder.must(recorder.convert(path)).stdout, seed)
+            self.assertEqual(recorder.must(recorder.call(few, path)).stdout,
+                             recorder.must(recorder.convert(path)).stdout, seed)
 
 
 MANY = 2**18 + 1  # variables; tables of recent ones have 2**16 and 2**18
@@ -164,7 +175,8 @@ def is_right_of_many(folder, converter):
     record = folder / "many.rec"
     accesses = [(1, "READ", "r", 0x201), (0, "WRITE", "w", 0x102)]
     record.write_bytes(HEADER + entry(0, "FORK", 1, 0x101)
-                       + b"".join(entry(t, kind, at, place, 8) for t, kind, _, place in accesses for at in variables))
+                       + b"".join(entry(t, kind, at, place, 8) for t, kind, _, place in accesses
+                                  for at in variables))
     wanted = ["main|fork(T1)|0x101", *(f"{'main' if t == 0 else 'T1'}|{word}({at:#x})|{place:#x}"
                                        for t, _, word, place in accesses for at in variables)]
     return recorder.must(recorder.call(converter, "--list", record)).stdout.decode().splitlines() == wanted
@@ -186,13 +198,18 @@ FAULTS_OF_MANY = (
     ("accesses.c", " && last->piece == number", ""),
 )
 FAULTS = {  # to plant in the converter: the file, what stands there, and what in its place
-    "users": ("accesses.c", "if (b->user != t + 1 || with_others) b->many_users = 1;", "if (with_others) b->many_users = 1;"),
+    "users": ("accesses.c", "if (b->user != t + 1 || with_others) b->many_users = 1;", "if (with_others) "
+              "b->many_users = 1;"),
     "cuts": ("accesses.c", "if (operation_of(i) != OP_FREE) cut(end_of(i));", ""),
-    "atomics": ("accesses.c", "if (u.writes_atomically && is_read_by_others(users, t)) {", "if (u.writes_atomically && users->many_readers) {"),
-    "reuse": ("memory.c", "u32 newest = grain > p->whole ? grain : p->whole;", "u32 newest = grain ? 1 : p->whole;"),
+    "atomics": ("accesses.c", "if (u.writes_atomically && is_read_by_others(users, t)) {",
+                "if (u.writes_atomically && users->many_readers) {"),
+    "reuse": ("memory.c", "u32 newest = grain > p->whole ? grain : p->whole;", "u32 newest = grain ? 1 : "
+              "p->whole;"),
     "late": ("late.c", "u64 order = late[k] >> NUMBER_BITS;", "u64 order = k - from;"),
-    "list_name": ("events.c", "        part name = variable_name(p->at, block", "        part name = variable_name(p->at & ~1ul, block"),
-    "shared_lock": ("objects.c", "    int orders = o->many_users || whole_trace;", "    int orders = whole_trace || is_atomic(operation_of(i));"),
+    "list_name": ("events.c", "        part name = variable_name(p->at, block", "        part name = "
+                  "variable_name(p->at & ~1ul, block"),
+    "shared_lock": ("objects.c", "    int orders = o->many_users || whole_trace;", "    int orders = "
+                    "whole_trace || is_atomic(operation_of(i));"),
     "repeats": ("accesses.c", " && last->writes == this.writes", ""),
     "fences": ("objects.c", "if (releases(i)) threads[thread_of(i)].is_fenced = 1;", ""),
     "what others gave is dropped": ("objects.c", "if (g->giver != t && g->version > last)", "if (0)"),
@@ -200,22 +217,30 @@ FAULTS = {  # to plant in the converter: the file, what stands there, and what i
     "no begin of a thread that did nothing": ("main.c", "if (!has_events(child) &&", "if (0 &&"),
     "half of what is freed": ("records.c", "MAX_FREED = 1024", "MAX_FREED = 512"),
     "ranges of 256 bytes and more": (
-        "records.c", "inside & IS_RANGE ? inside - IS_RANGE", "inside & IS_RANGE ? (inside - IS_RANGE) % 256"),
-    "blocks of whole pages": ("memory.c", "if (stop - from == PAGE) p->whole = number;", "if (stop - from == PAGE) p->whole = 0;"),
-    "a barrier has one round": ("objects.c", "u32 round = has_rounds ? o->arrivals / o->count : 0;", "u32 round = 0;"),
-    "a barrier always has rounds": ("objects.c", "o->count && o->users <= o->count && !o->recounted", "o->count"),
-    "who leaves a barrier gets nothing": ("objects.c", "    case OP_DEPART: pass_lock(", "    case OP_DEPART: if (0) pass_lock("),
+        "records.c", "inside & IS_RANGE ? inside - IS_RANGE",
+        "inside & IS_RANGE ? (inside - IS_RANGE) % 256"),
+    "blocks of whole pages": ("memory.c", "if (stop - from == PAGE) p->whole = number;", "if (stop - from == "
+                              "PAGE) p->whole = 0;"),
+    "a barrier has one round": ("objects.c", "u32 round = has_rounds ? o->arrivals / o->count : 0;",
+                                "u32 round = 0;"),
+    "a barrier always has rounds": ("objects.c", "o->count && o->users <= o->count && !o->recounted",
+                                    "o->count"),
+    "who leaves a barrier gets nothing": ("objects.c", "    case OP_DEPART: pass_lock(",
+                                          "    case OP_DEPART: if (0) pass_lock("),
     "a fork ends no repeats": (
-        "events.c", "if (*operation != 'r' || operation[1]) threads", "if (!strchr(\"rf\", *operation)) threads"),
+        "events.c", "if (*operation != 'r' || operation[1]) threads", "if (!strchr(\"rf\", *operation)) "
+                                                                      "threads"),
     "acquire fences": ("objects.c", "if (acquires(i)) take_noted(thread_of(i), hand, caller_of(i));", ""),
-    "numbers that are used again": ("records.c", "if (is_used[number]) with_number[number] = thread_bound();", ""),
+    "numbers that are used again": ("records.c", "if (is_used[number]) with_number[number] = thread_bound();",
+                                    ""),
 }
 
 
 FAULTS_OF_PAGES = {
     "no page for what is written atomically": ("page.c", "if (!sign) return;", "return;"),
     "a write that is passed over orders nothing": ("events.c", "threads[t].epoch += writes;", ""),
-    "locks before what is passed over aren't counted": ("events.c", "    write_holds(t);\n    meet_span();", "    meet_span();"),
+    "locks before what is passed over aren't counted": ("events.c", "    write_holds(t);\n    meet_span();",
+                                                        "    meet_span();"),
 }
 
 
@@ -249,4 +274,5 @@ class Planted(recorder.Case):
     def test_each_fault_is_found(self):
         for number, (fault, (name, before, after)) in enumerate(FAULTS.items()):
             with self.subTest(fault):
-                self.assertTrue(self.is_found(test_open.planted(self.folder / str(number), name, before, after)))
+                self.assertTrue(
+                    self.is_found(test_open.planted(self.folder / str(number), name, before, after)))

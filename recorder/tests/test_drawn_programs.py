@@ -1,6 +1,6 @@
 #!/usr/bin/env python3
-"""Programs drawn at random, recorded with cells and quick hooks, and again by the list of their turns with all accesses: the turns and
-the places are the same.
+"""Programs drawn at random, recorded with cells and quick hooks, and again by the list of their turns with
+all accesses: the turns and the places are the same.
 
     test_drawn_programs.py FIRST LAST    these seeds, by hand
 """
@@ -19,22 +19,31 @@ HEADER = 4096  # of a list of turns
 HEAD = """#include <pthread.h>
 #include <stdlib.h>
 #include <string.h>
-static pthread_mutex_t m[4] = {PTHREAD_MUTEX_INITIALIZER, PTHREAD_MUTEX_INITIALIZER, PTHREAD_MUTEX_INITIALIZER, PTHREAD_MUTEX_INITIALIZER};
+static pthread_mutex_t m[4] = {PTHREAD_MUTEX_INITIALIZER, PTHREAD_MUTEX_INITIALIZER,
+                               PTHREAD_MUTEX_INITIALIZER, PTHREAD_MUTEX_INITIALIZER};
 static long g[8], flag, a[4];
 static int h[16];
 static unsigned char b[32];
 static long *volatile heap;
 """
 OWN = 'long own[8] = {0}, s = 1; __asm__ volatile("" : : "r"(own) : "memory");'
-ACCESSES = ["own[{0}] += {1};", "own[{0}] += {1};", "s += own[{0}];", "g[{0}] += 1;", "g[{0}] += 1;", "s += g[{0}];", "h[{0} * 2 + {1} % 2] = s;",
-            "s += b[{0} * 4 + {1} % 4];", "b[{0} * 4 + {1} % 4] = s;", "s += __atomic_load_n(&flag, __ATOMIC_ACQUIRE);",
-            "__atomic_store_n(&flag, s, __ATOMIC_RELEASE);", "s += __atomic_fetch_add(&a[{2}], {1}, __ATOMIC_RELAXED);",
-            "s += __atomic_fetch_sub(&a[{2}], {1}, __ATOMIC_ACQ_REL);", "__atomic_store_n(&a[{2}], s, __ATOMIC_RELAXED);",
-            "while (__atomic_exchange_n(&a[3], 1, __ATOMIC_ACQUIRE)) ; g[{0}] += 1; __atomic_store_n(&a[3], 0, __ATOMIC_RELEASE);",
-            "if (__atomic_compare_exchange_n(&a[{2}], &s, {1}, 0, __ATOMIC_SEQ_CST, __ATOMIC_RELAXED)) own[{0}] = g[{1}];",
+ACCESSES = ["own[{0}] += {1};", "own[{0}] += {1};", "s += own[{0}];", "g[{0}] += 1;", "g[{0}] += 1;",
+            "s += g[{0}];", "h[{0} * 2 + {1} % 2] = s;",
+            "s += b[{0} * 4 + {1} % 4];", "b[{0} * 4 + {1} % 4] = s;",
+            "s += __atomic_load_n(&flag, __ATOMIC_ACQUIRE);",
+            "__atomic_store_n(&flag, s, __ATOMIC_RELEASE);",
+            "s += __atomic_fetch_add(&a[{2}], {1}, __ATOMIC_RELAXED);",
+            "s += __atomic_fetch_sub(&a[{2}], {1}, __ATOMIC_ACQ_REL);",
+            "__atomic_store_n(&a[{2}], s, __ATOMIC_RELAXED);",
+            "while (__atomic_exchange_n(&a[3], 1, __ATOMIC_ACQUIRE)) ; g[{0}] += 1; __atomic_store_n(&a[3], "
+            "0, __ATOMIC_RELEASE);",
+            "if (__atomic_compare_exchange_n(&a[{2}], &s, {1}, 0, __ATOMIC_SEQ_CST, __ATOMIC_RELAXED)) "
+            "own[{0}] = g[{1}];",
             "__atomic_thread_fence(__ATOMIC_ACQ_REL);", "s += a[{2}];"]
-BLOCKS = ["{{ long *p = malloc(64); p[1] = s; s += p[1]; heap = p; p[2] = 3; }}", "{{ long *p = malloc(64); p[1] = s; s += p[1]; free(p); }}",
-          "memset(own, 0, 64); memcpy(own + 2, own, 16);", "{{ long *p = heap; if (p) s += p[1]; }}", "s += f{2}(own, s);", "s += f{2}(own, s);"]
+BLOCKS = ["{{ long *p = malloc(64); p[1] = s; s += p[1]; heap = p; p[2] = 3; }}",
+          "{{ long *p = malloc(64); p[1] = s; s += p[1]; free(p); }}",
+          "memset(own, 0, 64); memcpy(own + 2, own, 16);", "{{ long *p = heap; if (p) s += p[1]; }}",
+          "s += f{2}(own, s);", "s += f{2}(own, s);"]
 LOCKED = "pthread_mutex_lock(&m[{2}]); %s %s pthread_mutex_unlock(&m[{2}]);"
 
 
@@ -44,8 +53,10 @@ class Program:
     def __init__(self, seed):
         self.draw = random.Random(seed)
         count = self.draw.choice((2, 2, 3, 4))
-        threads = [f"static void *t{k}(void *x) {{ {OWN}\n    {self.block()}\n    {self.block()}\n    return (void *)s; }}" for k in range(count)]
-        functions = [f"__attribute__((noinline)) static long f{k}(long *own, long s) {{ {' '.join(self.access() for _ in range(3))} return s; }}"
+        threads = [f"static void *t{k}(void *x) {{ {OWN}\n    {self.block()}\n    {self.block()}\n    return "
+                   "(void *)s; }" for k in range(count)]
+        functions = [f"__attribute__((noinline)) static long f{k}(long *own, long s) {{ "
+                     f"{' '.join(self.access() for _ in range(3))} return s; }}"
                      for k in range(3)]
         begins = " ".join(f"pthread_create(&t[{k}], 0, t{k}, 0);" for k in range(count))
         main = (f"int main(void) {{ pthread_t t[4]; heap = calloc(8, 8); {begins} {OWN}\n    {self.block()}\n"
@@ -88,7 +99,8 @@ class DrawnPrograms(recorder.Case):
         recorder.build(source, draw.choice(("-O0", "-O1", "-O2")), program)
         slice = draw.choice((recorder.OWN_SLICES, recorder.OWN_SLICES, 1, 5, 40, 300))
         held = self.run_it(program, "held", seed % 7 + 1, slice)
-        whole = self.run_it(program, "whole", seed % 7 + 1, slice, SHB_CELLS="0", SHB_REPLAY=str(self.folder / "held.turns"))
+        whole = self.run_it(program, "whole", seed % 7 + 1, slice, SHB_CELLS="0",
+                            SHB_REPLAY=str(self.folder / "held.turns"))
         self.assertEqual(held, whole, f"seed {seed}")
         return whole[1]
 

@@ -1,4 +1,5 @@
-"""Debug information in each form of it: names are read, or a line says of which module they aren't, and why."""
+"""Debug information in each form of it: names are read, or a line says of which module they
+aren't, and why."""
 
 import re
 import shutil
@@ -15,7 +16,8 @@ class Names(recorder.Case):
 
     def build(self, compiler, options):
         library, program = recorder.BUILT / "lib", self.folder / "app"
-        linked = [f"-B{library}/"] if compiler == "g++" else ["-fno-sanitize-link-runtime", f"-L{library}", "-ltsan"]
+        linked = ([f"-B{library}/"] if compiler == "g++"
+                  else ["-fno-sanitize-link-runtime", f"-L{library}", "-ltsan"])
         flags = ["-w", "-O1", "-fsanitize=thread", "-pthread", *options]
         recorder.must(recorder.call(compiler, *flags, "-c", recorder.PROGRAMS / "forms.cc", cwd=self.folder))
         recorder.must(recorder.call(compiler, *flags, "forms.o", *linked, "-o", program, cwd=self.folder))
@@ -45,7 +47,8 @@ class Names(recorder.Case):
                     program = self.build(compiler, options)
                     found, said = self.found(work(program) or program)
                     if unread and said:
-                        self.assertRegex("\n".join(said), rf"\A.* that this version of libdw doesn't read \({unread}\)\Z")
+                        self.assertRegex("\n".join(said),
+                                         rf"\A.* that this version of libdw doesn't read \({unread}\)\Z")
                         continue
                     self.assertEqual(({place: found.get(place) for place in wanted}, said), (wanted, []))
 
@@ -68,14 +71,16 @@ class Names(recorder.Case):
         """Puts what the program has in common with another one into a third file."""
         other = self.folder / "other"
         shutil.copy(program, other)
-        recorder.must(recorder.call("dwz", *options, "-m", self.folder / "shared.debug", "-M", "shared.debug", program, other))
+        recorder.must(recorder.call("dwz", *options, "-m", self.folder / "shared.debug", "-M", "shared.debug",
+                                    program, other))
 
     def test_shared_by_files(self):
         if not shutil.which("dwz"):
             self.skipTest("dwz isn't installed")
         self.check("-gdwarf-4", work=self.share)
         self.check("-gdwarf-5", compilers=["g++"], work=self.share)
-        self.check("-gdwarf-5", compilers=["g++"], work=lambda program: self.share(program, "--dwarf-5"), unread="dwz --dwarf-5")
+        self.check("-gdwarf-5", compilers=["g++"], work=lambda program: self.share(program, "--dwarf-5"),
+                   unread="dwz --dwarf-5")
 
     def test_shared_file_that_is_another_or_not_there(self):
         """Nothing of it is read."""
@@ -85,7 +90,9 @@ class Names(recorder.Case):
         self.share(program)
         self.assertEqual(self.found(program)[1], [])
         good = shared.read_bytes()
-        identity = bytes.fromhex(re.search(r"Build ID: (\w+)", recorder.must(recorder.call("readelf", "-n", shared)).stdout.decode())[1])
+        identity = bytes.fromhex(re.search(r"Build ID: (\w+)",
+                                           recorder.must(
+                                               recorder.call("readelf", "-n", shared)).stdout.decode())[1])
         self.assertEqual(good.count(identity), 1)
         for content in good.replace(identity, identity[::-1]), None:
             shared.write_bytes(content) if content else shared.unlink()
@@ -96,7 +103,8 @@ class Names(recorder.Case):
     def test_split(self):
         for version in 4, 5:
             for more in (), ("-fdebug-types-section",):
-                self.check(f"-gdwarf-{version}", "-gsplit-dwarf", *more, unread="-gsplit-dwarf( -fdebug-types-section)?" if more else None)
+                self.check(f"-gdwarf-{version}", "-gsplit-dwarf", *more,
+                           unread="-gsplit-dwarf( -fdebug-types-section)?" if more else None)
         self.check("-g", "-gsplit-dwarf=single", compilers=["clang++"], unread="-gsplit-dwarf=single")
 
     def test_split_files_beside_the_program(self):
@@ -116,12 +124,14 @@ class Names(recorder.Case):
         for tool, version, compilers in ("dwp", 4, ["g++", "clang++"]), ("llvm-dwp", 5, ["clang++"]):
             for more in (), ("-fdebug-types-section",):
                 if shutil.which(tool):
-                    self.check(f"-gdwarf-{version}", "-gsplit-dwarf", *more, compilers=compilers, work=lambda program: pack(tool, program), unread=".dwp")
+                    self.check(f"-gdwarf-{version}", "-gsplit-dwarf", *more, compilers=compilers,
+                               work=lambda program: pack(tool, program), unread=".dwp")
 
     def test_split_file_of_another_build_or_not_there(self):
         """Nothing of it is read."""
         for version in 4, 5:
-            program, split, kept = self.build("g++", [f"-gdwarf-{version}", "-gsplit-dwarf"]), self.folder / "forms.dwo", self.folder / "kept"
+            program, split, kept = (self.build("g++", [f"-gdwarf-{version}", "-gsplit-dwarf"]),
+                                    self.folder / "forms.dwo", self.folder / "kept")
             program.rename(kept)
             self.assertEqual(self.found(kept)[1], [])
             self.build("g++", [f"-gdwarf-{version}", "-gsplit-dwarf", "-O0"])
@@ -129,7 +139,8 @@ class Names(recorder.Case):
                 if not is_there:
                     split.unlink()
                 found, said = self.found(kept)
-                self.assertEqual(said, ["is in other files that aren't there, not of this build, or of a form that this version of libdw doesn't read (-gsplit-dwarf)"])
+                self.assertEqual(said, ["is in other files that aren't there, not of this build, or of a "
+                                        "form that this version of libdw doesn't read (-gsplit-dwarf)"])
                 self.assertIn({"one+8"}, found.values())
 
     def test_link_time_optimisation(self):
@@ -139,7 +150,8 @@ class Names(recorder.Case):
                 self.check("-g", option, "-fuse-ld=lld", compilers=["clang++"])
 
 
-UNREAD = {("-g0",): "isn't there (no -g); lines are addresses too: compile with -g", ("-g1",): "has no types (-g1)"}
+UNREAD = {("-g0",): "isn't there (no -g); lines are addresses too: compile with -g",
+          ("-g1",): "has no types (-g1)"}
 
 
 class Said(recorder.Case):
@@ -148,14 +160,17 @@ class Said(recorder.Case):
     def found(self, *options, work=lambda program: None):
         """Whether the member has its name, and what is said of the debug information."""
         source, program, record = self.folder / "st.c", self.folder / "st", self.folder / "app.rec"
-        source.write_text("#include <pthread.h>\nstruct pair { int a, b; } st;\nvoid *run(void *p) { st.b++; return p; }\n"
-                          "int main(void) {\n    pthread_t t;\n    pthread_create(&t, 0, run, 0);\n    st.b++;\n    return pthread_join(t, 0);\n}\n")
-        recorder.must(recorder.call("gcc", "-w", "-O1", "-fsanitize=thread", f"-B{recorder.BUILT}/lib/", *options, source, "-o", program,
+        source.write_text("#include <pthread.h>\nstruct pair { int a, b; } st;\nvoid *run(void *p) { st.b++; "
+                          "return p; }\nint main(void) {\n    pthread_t t;\n    pthread_create(&t, 0, run, "
+                          "0);\n    st.b++;\n    return pthread_join(t, 0);\n}\n")
+        recorder.must(recorder.call("gcc", "-w", "-O1", "-fsanitize=thread", f"-B{recorder.BUILT}/lib/",
+                                    *options, source, "-o", program,
                                     cwd=self.folder))
         work(program)
         recorder.must(recorder.call(program, env=recorder.settings(record)))
         answer = recorder.must(recorder.convert(record))
-        said = re.findall(rf"(?m)^shb-std: {program}: .*, for its debug information (.*)$", answer.stderr.decode())
+        said = re.findall(rf"(?m)^shb-std: {program}: .*, for its debug information (.*)$",
+                          answer.stderr.decode())
         return b"|w(st.b)|" in answer.stdout, said
 
     def test_forms_that_are_not_read_are_said(self):
@@ -174,4 +189,5 @@ class Said(recorder.Case):
             if not is_there:
                 own.unlink()
         self.assertEqual(self.found("-g", work=lambda program: apart(program, True)), (True, []))
-        self.assertEqual(self.found("-g", work=lambda program: apart(program, False)), (False, ["is in a file that isn't there (.gnu_debuglink)"]))
+        self.assertEqual(self.found("-g", work=lambda program: apart(program, False)),
+                         (False, ["is in a file that isn't there (.gnu_debuglink)"]))

@@ -1,6 +1,7 @@
-"""Runs of a program whose threads are shorter than the start of one: with the recorder's own slices they meet, and differ. A seed
-decides what is drawn, not when the system lets a thread begin: so runs of one seed may differ too, and what is asked for here is
-less than what was seen, on a busy machine and on a quiet one: 19 to 30 different traces, and threads that overlap in 18 runs or more."""
+"""Runs of a program whose threads are shorter than the start of one: with the recorder's own slices they
+meet, and differ. A seed decides what is drawn, not when the system lets a thread begin: so runs of one seed
+may differ too, and what is asked for here is less than what was seen, on a busy machine and on a quiet one:
+19 to 30 different traces, and threads that overlap in 18 runs or more."""
 
 import itertools
 
@@ -15,7 +16,8 @@ class Interleavings(recorder.Case):
         path = self.folder / "app.rec"
         recorder.build(recorder.PROGRAMS / "short_threads.c", "-O1", self.folder / "app")
         for seed in range(1, RUNS + 1):
-            recorder.must(recorder.call(self.folder / "app", env=recorder.settings(path, seed, recorder.OWN_SLICES)))
+            recorder.must(recorder.call(self.folder / "app",
+                                        env=recorder.settings(path, seed, recorder.OWN_SLICES)))
             yield recorder.must(recorder.convert(path)).stdout
 
     def test_short_threads(self):

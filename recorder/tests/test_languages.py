@@ -1,5 +1,5 @@
-"""Other languages whose compilers insert the same calls: a planted race is found at its line, in the program's own file
-and by the program's own name, and a right program has none."""
+"""Other languages whose compilers insert the same calls: a planted race is found at its line, in the
+program's own file and by the program's own name, and a right program has none."""
 
 import os
 import re
@@ -11,7 +11,8 @@ LANGUAGES = recorder.HERE / "languages"
 MOST_RUNS = 20  # until all planted races are found
 RIGHT_RUNS = 3
 SANITIZED = ["-g", "-Og", "-fsanitize=thread"]
-RUST = ["-g", "-Copt-level=1", "-Zsanitizer=thread", "-Cunsafe-allow-abi-mismatch=sanitizer", "-Zexternal-clangrt"]
+RUST = ["-g", "-Copt-level=1", "-Zsanitizer=thread", "-Cunsafe-allow-abi-mismatch=sanitizer",
+        "-Zexternal-clangrt"]
 
 
 class Languages(recorder.Case):
@@ -21,14 +22,17 @@ class Languages(recorder.Case):
 
     def check(self, name, *words):
         """Builds a program, and compares what its runs show with the marks of its source."""
-        source, program, record, page = LANGUAGES / name, self.folder / "app", self.folder / "app.rec", self.folder / "page.std"
+        source, program, record, page = (LANGUAGES / name, self.folder / "app", self.folder / "app.rec",
+                                         self.folder / "page.std")
         marks = re.findall(r"^.*RACE (.*)$", source.read_text(), re.M)
-        lines = {f"{name}:{n}" for n, line in enumerate(source.read_text().splitlines(), 1) if " RACE " in line}
+        lines = {f"{name}:{n}" for n, line in enumerate(source.read_text().splitlines(), 1)
+                 if " RACE " in line}
         recorder.must(recorder.call(*words, cwd=self.folder, env={**os.environ, "RUSTC_BOOTSTRAP": "1"}))
         found, names, run = set(), set(), 0
         while run < (RIGHT_RUNS if not lines or found == lines else MOST_RUNS):
             run += 1
-            how = {**recorder.settings(record, run, recorder.OWN_SLICES), "LD_LIBRARY_PATH": f"{recorder.BUILT}/lib"}
+            how = {**recorder.settings(record, run, recorder.OWN_SLICES),
+                   "LD_LIBRARY_PATH": f"{recorder.BUILT}/lib"}
             recorder.must(recorder.call(program, env=how))
             for pair, variable in recorder.listed(record, page):
                 found.update(pair)
@@ -41,7 +45,8 @@ class Languages(recorder.Case):
 
     def ada(self, name):
         self.need("gnatmake")
-        self.check(name, "gnatmake", "-q", f"-aI{LANGUAGES}", LANGUAGES / name, "-o", "app", "-cargs", *SANITIZED,
+        self.check(name, "gnatmake", "-q", f"-aI{LANGUAGES}", LANGUAGES / name, "-o", "app", "-cargs",
+                   *SANITIZED,
                    "-largs", "-fsanitize=thread")
 
     def rust(self, name):
@@ -56,7 +61,8 @@ class Text(recorder.Case):
     def recorded(self, compiler, *words):
         if not shutil.which(compiler):
             self.skipTest(f"{compiler} isn't installed")
-        recorder.must(recorder.call(compiler, *words, cwd=self.folder, env={**os.environ, "RUSTC_BOOTSTRAP": "1"}))
+        recorder.must(recorder.call(compiler, *words, cwd=self.folder,
+                                    env={**os.environ, "RUSTC_BOOTSTRAP": "1"}))
         how = {**os.environ, "SHB": str(recorder.SHB)}
         said = recorder.call(recorder.COMMAND, "-o", "out", "./app", cwd=self.folder, env=how).stderr.decode()
         return said
@@ -79,7 +85,9 @@ def add_tests():
     for source in sorted(LANGUAGES.glob("r*")):
         check = {".f90": Languages.fortran, ".adb": Languages.ada, ".rs": Languages.rust}.get(source.suffix)
         if check:
-            setattr(Languages, f"test_{source.name.replace('.', '_')}", lambda self, name=source.name, run=check: run(self, name))
+            setattr(Languages,
+                    f"test_{source.name.replace('.', '_')}", lambda self, name=source.name, run=check: run(
+                        self, name))
 
 
 add_tests()

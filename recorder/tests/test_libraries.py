@@ -1,4 +1,5 @@
-"""Libraries without hooks whose locks and queues are recorded as they are called: what these order is no race, and a planted one is found."""
+"""Libraries without hooks whose locks and queues are recorded as they are called: what these order is no
+race, and a planted one is found."""
 
 import html
 import json
@@ -16,26 +17,32 @@ def flags(package):
     """What a program is compiled with that uses a library, or None where its headers aren't installed."""
     if not shutil.which("pkg-config"):
         return None
-    asked = subprocess.run(["pkg-config", "--cflags", "--libs", package], stdout=subprocess.PIPE, stderr=subprocess.DEVNULL)
+    asked = subprocess.run(["pkg-config", "--cflags", "--libs", package], stdout=subprocess.PIPE,
+                           stderr=subprocess.DEVNULL)
     return None if asked.returncode else asked.stdout.decode().split()
 
 
 class Libraries(recorder.Case):
     def one(self, name, package):
-        """In each of some runs nothing races but the lines with the comment RACE; in some run each of these does."""
+        """In each of some runs nothing races but the lines with the comment RACE; in some run each
+        of these does."""
         more = flags(package)
         if more is None:
             self.skipTest(f"{package} isn't installed (pkg-config)")
         source, program, found = LIBRARIES / name, self.folder / "program", set()
         compiler = ["g++", "-std=c++17", "-fPIC"] if source.suffix == ".cc" else ["gcc"]
-        recorder.must(recorder.call(*compiler, "-w", "-g", "-O1", "-fsanitize=thread", "-pthread", source, "-o", program, *more))
-        planted = {f"{name}:{number}" for number, line in enumerate(source.read_text().splitlines(), 1) if "RACE" in line}
+        recorder.must(recorder.call(*compiler, "-w", "-g", "-O1", "-fsanitize=thread", "-pthread", source,
+                                    "-o", program, *more))
+        planted = {f"{name}:{number}" for number, line in enumerate(source.read_text().splitlines(), 1)
+                   if "RACE" in line}
         for seed in range(1, RUNS + 1):
             record = self.folder / f"{seed}.rec"
-            how = {**recorder.settings(record, seed, recorder.OWN_SLICES), "LD_LIBRARY_PATH": str(recorder.BUILT / "lib")}
+            how = {**recorder.settings(record, seed, recorder.OWN_SLICES),
+                   "LD_LIBRARY_PATH": str(recorder.BUILT / "lib")}
             ran = recorder.call(program, env=how)
             self.assertEqual((ran.returncode, ran.stderr), (0, b""))
-            found |= {place for pair, _ in recorder.listed(record, self.folder / f"{seed}.std") for place in pair}
+            found |= {place for pair, _ in recorder.listed(record, self.folder / f"{seed}.std")
+                      for place in pair}
         self.assertEqual(found, planted)
 
     def test_qt_5(self):
@@ -52,77 +59,99 @@ class Libraries(recorder.Case):
 
     def test_library_that_comes_by_dlopen(self):
         """Its functions aren't behind the recorder's in the loader's order, and are found nevertheless."""
-        texts = {"library.c": "int g_mutex_trylock(int *m) { return !__atomic_exchange_n(m, 1, __ATOMIC_ACQUIRE); }\n"
-                              "void g_mutex_lock(int *m) { while (!g_mutex_trylock(m)) {} }\n"
-                              "void g_mutex_unlock(int *m) { __atomic_store_n(m, 0, __ATOMIC_RELEASE); }\n",
+        texts = {"library.c": "int g_mutex_trylock(int *m) { return !__atomic_exchange_n(m, 1, "
+                              "__ATOMIC_ACQUIRE); }\nvoid g_mutex_lock(int *m) { while (!g_mutex_trylock(m)) "
+                              "{} }\nvoid g_mutex_unlock(int *m) { __atomic_store_n(m, 0, __ATOMIC_RELEASE); "
+                              "}\n",
                  "plugin.c": "void g_mutex_lock(int *), g_mutex_unlock(int *);\nint lock, counter;\n"
-                             "void *use(void *u) { g_mutex_lock(&lock); counter++; g_mutex_unlock(&lock); return u; }\n",
+                             "void *use(void *u) { g_mutex_lock(&lock); counter++; g_mutex_unlock(&lock); "
+                             "return u; }\n",
                  "host.c": "#include <dlfcn.h>\n#include <pthread.h>\nint main(void) {\n    pthread_t t;\n"
-                           "    void *(*use)(void *) = (void *(*)(void *))dlsym(dlopen(\"./plugin.so\", RTLD_NOW), \"use\");\n"
-                           "    pthread_create(&t, 0, use, 0);\n    use(0);\n    return pthread_join(t, 0);\n}\n"}
+                           "    void *(*use)(void *) = (void *(*)(void *))dlsym(dlopen(\"./plugin.so\", "
+                           "RTLD_NOW), \"use\");\n    pthread_create(&t, 0, use, 0);\n    use(0);\n    "
+                           "return pthread_join(t, 0);\n}\n"}
         for name, text in texts.items():
             (self.folder / name).write_text(text)
         for words in (["-shared", "-fPIC", "library.c", "-o", "library.so"],
-                      ["-fsanitize=thread", f"-B{recorder.BUILT}/lib/", "-shared", "-fPIC", "plugin.c", "./library.so", "-o", "plugin.so"],
-                      ["-fsanitize=thread", f"-B{recorder.BUILT}/lib/", "host.c", "-o", "host", "-ldl", "-pthread"]):
+                      ["-fsanitize=thread", f"-B{recorder.BUILT}/lib/", "-shared", "-fPIC", "plugin.c",
+                       "./library.so", "-o", "plugin.so"],
+                      ["-fsanitize=thread", f"-B{recorder.BUILT}/lib/", "host.c", "-o", "host", "-ldl",
+                       "-pthread"]):
             recorder.must(recorder.call("gcc", "-g", "-O1", *words, cwd=self.folder))
         record = self.folder / "host.rec"
-        recorder.must(recorder.call("./host", cwd=self.folder, env={**recorder.settings(record), "LD_LIBRARY_PATH": "."}))
+        recorder.must(recorder.call("./host", cwd=self.folder,
+                                    env={**recorder.settings(record), "LD_LIBRARY_PATH": "."}))
         trace = recorder.must(recorder.convert(record)).stdout
         self.assertEqual(recorder.places(trace), set())
         self.assertRegex(trace, rb"\nT1\|acq\(.*\nT1\|r\(.*\nT1\|w\(.*\nT1\|rel\(")
 
     def test_perhaps_ordered(self):
-        """A library without hooks hands a block on, and both sides call it: the race is marked. One of a thread that doesn't call it isn't."""
+        """A library without hooks hands a block on, and both sides call it: the race is marked. One of a
+        thread that doesn't call it isn't."""
         said = self.perhaps_ordered(
-            "static void *_Atomic held;\nvoid box_put(void *p) { held = p; }\nvoid *box_get(void) { void *p; while (!(p = held)) {} return p; }\n",
-            "#include <pthread.h>\n#include <stdlib.h>\nvoid box_put(void *), *box_get(void);\nstatic long other;\n"
-            "static void *give(void *u) {\n    long *p = malloc(sizeof *p);\n    *p = 5;\n    box_put(p);\n    return u;\n}\n"
-            "static void *count(void *u) {\n    other++;\n    return u;\n}\n"
-            "int main(void) {\n    pthread_t t, u;\n    pthread_create(&t, 0, give, 0);\n    pthread_create(&u, 0, count, 0);\n"
-            "    long *p = box_get();\n    int bad = *p != 5;\n    other++;\n    pthread_join(t, 0);\n    return pthread_join(u, 0) || bad;\n}\n",
+            "static void *_Atomic held;\nvoid box_put(void *p) { held = p; }\nvoid *box_get(void) { void *p; "
+            "while (!(p = held)) {} return p; }\n",
+            "#include <pthread.h>\n#include <stdlib.h>\nvoid box_put(void *), *box_get(void);\nstatic long "
+            "other;\nstatic void *give(void *u) {\n    long *p = malloc(sizeof *p);\n    *p = 5;\n    "
+            "box_put(p);\n    return u;\n}\nstatic void *count(void *u) {\n    other++;\n    return u;\n}\n"
+            "int main(void) {\n    pthread_t t, u;\n    pthread_create(&t, 0, give, 0);\n    "
+            "pthread_create(&u, 0, count, 0);\n    long *p = box_get();\n    int bad = *p != 5;\n    "
+            "other++;\n    pthread_join(t, 0);\n    return pthread_join(u, 0) || bad;\n}\n",
             {"use.c:6": ["libbox.so"], "other": None})
         [page] = (self.folder / "out").glob("run*.html")
         for shown in (said, html.unescape(page.read_text())):
-            self.assertEqual(shown.count("Perhaps ordered: code of both sides calls, or is called by, libbox.so, whose locks and queues aren't seen."), 1)
+            self.assertEqual(shown.count("Perhaps ordered: code of both sides calls, or is called by, "
+                                         "libbox.so, whose locks and queues aren't seen."), 1)
         self.assertEqual(page.read_text().count('class="tag perhaps"'), 1)
 
     def test_what_a_sanitizer_adds_orders_nothing(self):
         """A race isn't doubted because both sides have calls of libubsan."""
-        words = ["-g", "-Og", "-fsanitize=thread,undefined", recorder.HERE.parents[1] / "examples" / "account.c", "-o", "account"]
+        words = ["-g", "-Og", "-fsanitize=thread,undefined",
+                 recorder.HERE.parents[1] / "examples" / "account.c", "-o", "account"]
         recorder.must(recorder.call("gcc", *words, cwd=self.folder))
-        ran = recorder.call(recorder.COMMAND, "./account", cwd=self.folder, env={**os.environ, "SHB": str(recorder.SHB)})
+        ran = recorder.call(recorder.COMMAND, "./account", cwd=self.folder,
+                            env={**os.environ, "SHB": str(recorder.SHB)})
         said = ran.stderr.decode()
-        self.assertEqual((ran.returncode, "1. balance: " in said, "Perhaps" in said, "libubsan" in said), (66, True, False, False), said)
+        self.assertEqual((ran.returncode, "1. balance: " in said, "Perhaps" in said, "libubsan" in said),
+                         (66, True, False, False), said)
 
     def test_perhaps_ordered_as_callbacks(self):
-        """A library without hooks starts the threads that call the program back, one at a time; the program's own threads aren't its. With its
-        names and debug information or without, it is known in call stacks."""
+        """A library without hooks starts the threads that call the program back, one at a time; the program's
+        own threads aren't its. With its names and debug information or without, it is known in call
+        stacks."""
         for kept in (["-s"], ["-g"]):
             with self.subTest(kept=kept):
                 self.called_back(kept)
 
     def called_back(self, kept):
         said = self.perhaps_ordered(
-            "#include <pthread.h>\nstatic pthread_t threads[2];\nstatic _Atomic int turn;\nstatic void (*job)(void);\n"
-            "static void *run(void *p) { while (turn != (p != 0)) {} job(); turn++; return 0; }\n"
-            "void pool_start(void (*f)(void)) { job = f; for (int k = 0; k < 2; k++) pthread_create(threads + k, 0, run, k ? threads : 0); }\n"
-            "void pool_end(void) { for (int k = 0; k < 2; k++) pthread_join(threads[k], 0); }\n",
-            "#include <pthread.h>\nvoid pool_start(void (*)(void)), pool_end(void);\nstatic long total, other;\nstatic void step(void) { total++; }\n"
-            "static void *count(void *u) {\n    other++;\n    return u;\n}\n"
-            "int main(void) {\n    pthread_t t, u;\n    pool_start(step);\n    pthread_create(&t, 0, count, 0);\n    pthread_create(&u, 0, count, 0);\n"
-            "    pool_end();\n    pthread_join(t, 0);\n    return pthread_join(u, 0);\n}\n", {"total": ["libbox.so"], "other": None}, kept)
+            "#include <pthread.h>\nstatic pthread_t threads[2];\nstatic _Atomic int turn;\nstatic void "
+            "(*job)(void);\nstatic void *run(void *p) { while (turn != (p != 0)) {} job(); turn++; return 0; "
+            "}\nvoid pool_start(void (*f)(void)) { job = f; for (int k = 0; k < 2; k++) "
+            "pthread_create(threads + k, 0, run, k ? threads : 0); }\nvoid pool_end(void) { for (int k = 0; "
+            "k < 2; k++) pthread_join(threads[k], 0); }\n",
+            "#include <pthread.h>\nvoid pool_start(void (*)(void)), pool_end(void);\nstatic long total, "
+            "other;\nstatic void step(void) { total++; }\nstatic void *count(void *u) {\n    other++;\n    "
+            "return u;\n}\nint main(void) {\n    pthread_t t, u;\n    pool_start(step);\n    "
+            "pthread_create(&t, 0, count, 0);\n    pthread_create(&u, 0, count, 0);\n    pool_end();\n    "
+            "pthread_join(t, 0);\n    return pthread_join(u, 0);\n}\n",
+            {"total": ["libbox.so"], "other": None}, kept)
         self.assertIn("Code without -fsanitize=thread isn't seen: libbox.so.", said)
 
     def perhaps_ordered(self, library, program, wanted, kept=("-s",)):
-        """Records a program of a library without hooks and what is `kept` of it, and compares which variables are marked; gives what is said."""
+        """Records a program of a library without hooks and what is `kept` of it, and compares which variables
+        are marked; gives what is said."""
         (self.folder / "box.c").write_text(library)
         (self.folder / "use.c").write_text(program)
-        for words in ([*kept, "-shared", "-fPIC", "box.c", "-o", "libbox.so"], ["-fsanitize=thread", "use.c", "-o", "use", "./libbox.so"]):
+        for words in ([*kept, "-shared", "-fPIC", "box.c", "-o", "libbox.so"],
+                      ["-fsanitize=thread", "use.c", "-o", "use", "./libbox.so"]):
             recorder.must(recorder.call("gcc", "-g", "-O1", "-pthread", *words, cwd=self.folder))
         shutil.rmtree(self.folder / "out", ignore_errors=True)
-        ran = recorder.call(recorder.COMMAND, "-o", "out", "./use", cwd=self.folder, env={**os.environ, "SHB": str(recorder.SHB)})
+        ran = recorder.call(recorder.COMMAND, "-o", "out", "./use", cwd=self.folder,
+                            env={**os.environ, "SHB": str(recorder.SHB)})
         found = json.loads((self.folder / "out" / "places.json").read_text())
-        by = {place["variables"][0]["name"].partition("#")[0]: found["groups"][place["group"] - 1].get("perhaps_ordered_by") for place in found["places"]}
+        by = {
+            place["variables"][0]["name"].partition("#")[0]: found["groups"][place["group"] - 1].get(
+                "perhaps_ordered_by") for place in found["places"]}
         self.assertEqual(by, wanted, ran.stderr)
         return ran.stderr.decode()

@@ -1,4 +1,5 @@
-"""Locals that other threads use, by their names: of programs, of records made by hand, and of programs with damaged debug information."""
+"""Locals that other threads use, by their names: of programs, of records made by hand, and of programs with
+damaged debug information."""
 
 import os
 import random
@@ -31,7 +32,8 @@ def of_events(path, trace):
     for event, line in enumerate(lines, 1):
         found = re.fullmatch(r"[^|]*\|[rw]\((stack\.[^!]*?)(?:!.*)?\)\|(.*)", line)
         if found:
-            yield found[2], stacks.local_of(os.fsencode(found[1]), event).decode(errors="surrogateescape") or "-"
+            yield (found[2], stacks.local_of(os.fsencode(found[1]), event).decode(errors="surrogateescape")
+                   or "-")
 
 
 class Programs(recorder.Case):
@@ -39,8 +41,10 @@ class Programs(recorder.Case):
         """The record of a program."""
         program, record = self.folder / "app", self.folder / "app.rec"
         library = recorder.BUILT / "lib"
-        linked = [f"-B{library}/"] if compiler == "gcc" else ["-fno-sanitize-link-runtime", f"-L{library}", "-ltsan"]
-        recorder.must(recorder.call(compiler, "-w", "-g", option, *options, "-fsanitize=thread", "-pthread", recorder.PROGRAMS / source, *linked,
+        linked = ([f"-B{library}/"] if compiler == "gcc"
+                  else ["-fno-sanitize-link-runtime", f"-L{library}", "-ltsan"])
+        recorder.must(recorder.call(compiler, "-w", "-g", option, *options, "-fsanitize=thread", "-pthread",
+                                    recorder.PROGRAMS / source, *linked,
                                     "-o", program))
         recorder.must(recorder.call(program, env=recorder.settings(record, SHB_CELLS="0")))
         return record
@@ -49,7 +53,8 @@ class Programs(recorder.Case):
         """By line, the names of what it accesses."""
         record, path = self.recorded(compiler, option, "locals.c", *options), self.folder / "app.stacks"
         names = {}
-        for place, name in of_events(path, recorder.must(recorder.convert(record, "-a", "--stacks", path)).stdout):
+        for place, name in of_events(path,
+                                     recorder.must(recorder.convert(record, "-a", "--stacks", path)).stdout):
             names.setdefault(place, set()).add(name)
         return names
 
@@ -60,7 +65,8 @@ class Programs(recorder.Case):
         for compiler in ("gcc", "clang"):
             record, path = self.recorded(compiler, "-O1", "local_locks.c"), self.folder / "app.stacks"
             for options in ((), ("-a",)):
-                lines = recorder.must(recorder.convert(record, *options, "--stacks", path)).stdout.splitlines()
+                lines = recorder.must(recorder.convert(record, *options, "--stacks",
+                                                       path)).stdout.splitlines()
                 stacks, named = Stacks(path, len(lines)), set()
                 for line in lines:
                     name = line.split(b"(", 1)[1].split(b")|")[0].partition(b"@")[0].partition(b"!")[0]
@@ -72,7 +78,8 @@ class Programs(recorder.Case):
 
     def test_what_other_functions_did_at_the_address(self):
         """It isn't shown under the local's name."""
-        source, path, trace = recorder.PROGRAMS / "dead_locals.c", self.folder / "app.stacks", self.folder / "app.std"
+        source, path, trace = (recorder.PROGRAMS / "dead_locals.c", self.folder / "app.stacks",
+                               self.folder / "app.std")
         wanted = {f"dead_locals.c:{number}" for number, line in enumerate(source.read_text().splitlines(), 1)
                   if re.search(r"/\* (RACE|BEGIN) \*/", line)}
         for compiler in ("gcc", "clang"):
@@ -80,10 +87,12 @@ class Programs(recorder.Case):
                 record = self.recorded(compiler, option, "dead_locals.c")
                 trace.write_bytes(recorder.must(recorder.convert(record, "--stacks", path)).stdout)
                 view = recorder.PYTHON / "shb-view"
-                shown = recorder.call(sys.executable, "-B", view, "--stacks", path, trace, env={**os.environ, "SHB": str(recorder.SHB)})
+                shown = recorder.call(sys.executable, "-B", view, "--stacks", path, trace,
+                                      env={**os.environ, "SHB": str(recorder.SHB)})
                 with self.subTest(compiler=compiler, option=option):
                     self.assertIn(b"1. flag of wait_for", recorder.must(shown).stdout)
-                    self.assertEqual(set(re.findall(r"(?m)^   (dead_locals\.c:\d+): ", shown.stdout.decode())), wanted)
+                    self.assertEqual(
+                        set(re.findall(r"(?m)^   (dead_locals\.c:\d+): ", shown.stdout.decode())), wanted)
 
     def test_by_gcc(self):
         wanted = recorder.marked(recorder.PROGRAMS / "locals.c", "IS")
@@ -95,8 +104,8 @@ class Programs(recorder.Case):
                     self.assertEqual(found.get(place), names)
 
     def test_older_lists_of_locations(self):
-        """They tell the same as those of DWARF 5, of the lines that are marked: where else a name is certain depends on the address at which
-        the stack begins."""
+        """They tell the same as those of DWARF 5, of the lines that are marked: where else a name is certain
+        depends on the address at which the stack begins."""
         wanted = recorder.marked(recorder.PROGRAMS / "locals.c", "IS")
         for compiler in "gcc", "clang":
             if shutil.which(compiler):
@@ -105,20 +114,24 @@ class Programs(recorder.Case):
                     found = self.found(compiler, "-O2", f"-gdwarf-{version}")
                     for place in wanted:
                         with self.subTest(compiler=compiler, version=version, place=place):
-                            self.assertEqual(found.get(place, set()) - {"-"}, newest.get(place, set()) - {"-"})
+                            self.assertEqual(found.get(place, set()) - {"-"},
+                                             newest.get(place, set()) - {"-"})
 
     def test_by_clang(self):
-        """It doesn't tell of each where it lies, and may have no hooks for members; a part of one may be a variable of its own."""
+        """It doesn't tell of each where it lies, and may have no hooks for members; a part of one may be a
+        variable of its own."""
         if not shutil.which("clang"):
             self.skipTest("clang isn't installed")
         wanted = recorder.marked(recorder.PROGRAMS / "locals.c", "IS")
         for option in ("-O0", "-O1", "-O2", "-O3"):
-            found = {place: {name.replace("+4", "") for name in names} for place, names in self.found("clang", option).items()}
+            found = {place: {name.replace("+4", "") for name in names}
+                     for place, names in self.found("clang", option).items()}
             for place, names in wanted.items():
                 with self.subTest(option=option, place=place):
                     self.assertEqual(found.get(place, set()) - names - {"-"}, set())
             named = set().union(*found.values())
-            self.assertLessEqual({"total of main", "mine of descend", "buffer[2] of worker", "first of blocks", "second of blocks",
+            self.assertLessEqual({"total of main", "mine of descend", "buffer[2] of worker",
+                                  "first of blocks", "second of blocks",
                                   "queue.items[1].range.high of main", "cells[4] of grid"}, named, option)
 
 
@@ -127,24 +140,31 @@ class MadeByHand(recorder.Case):
 
     def setUp(self):
         super().setUp()
-        self.program, self.record, self.path = self.folder / "app", self.folder / "app.rec", self.folder / "app.stacks"
+        self.program, self.record, self.path = (self.folder / "app", self.folder / "app.rec",
+                                                self.folder / "app.stacks")
         (self.folder / "app.c").write_text(SOURCE)
         recorder.must(recorder.call("gcc", "-g", "-no-pie", self.folder / "app.c", "-o", self.program))
         listed = recorder.must(recorder.call("nm", self.program)).stdout.decode()
         self.main = int(re.search(r"(?m)^(\w+) T main$", listed)[1], 16)
         told = recorder.must(recorder.call("readelf", "--debug-dump=info", self.program)).stdout.decode()
-        self.at = int(re.search(r"both_of_them\n(?:.*\n){0,4}?.*DW_OP_fbreg: (-\d+)", told)[1])  # below main's caller's frame
+        # below main's caller's frame
+        self.at = int(re.search(r"both_of_them\n(?:.*\n){0,4}?.*DW_OP_fbreg: (-\d+)", told)[1])
 
     def entered(self, gap=8, size=200, depth=0, thread=0):
-        return entry(thread, "PLACE", gap | size << 24, 0) + entry(thread, "FRAME", self.main + 12, 0x100 + depth, depth)
+        return (entry(thread, "PLACE", gap | size << 24, 0)
+                + entry(thread, "FRAME", self.main + 12, 0x100 + depth, depth))
 
     def write(self, frames, inside=4, gap=8, before=b"", behind=b""):
-        """A record in which both threads write main's local, so far inside, while the main thread is in these frames."""
+        """A record in which both threads write main's local, so far inside, while the main thread is
+        in these frames."""
         local = END - gap + self.at + inside
-        entries = [entry(0, "START", END - 8192, 0, 8192), entry(0, "FORK", 1, 0x101), entry(1, "START", 0x30000000, 0x500, 4096), before,
-                   frames, entry(0, "WRITE", local, self.main + 20, 4), entry(1, "WRITE", local, 0x200, 4), behind]
+        entries = [entry(0, "START", END - 8192, 0, 8192), entry(0, "FORK", 1, 0x101),
+                   entry(1, "START", 0x30000000, 0x500, 4096), before,
+                   frames, entry(0, "WRITE", local, self.main + 20, 4), entry(1, "WRITE", local, 0x200, 4),
+                   behind]
         header = b"shb-record 11\n0 ffffff 0 " + os.fsencode(self.program) + b"\n"
-        self.record.write_bytes(header.ljust(65536 - 256, b"\0") + b"whole".ljust(256, b"\0") + b"".join(entries))
+        self.record.write_bytes(header.ljust(65536 - 256, b"\0") + b"whole".ljust(256, b"\0")
+                                + b"".join(entries))
 
     def names(self, converter=None):
         words = [converter or recorder.BUILT / "shb-std", "--stacks", self.path, self.record]
@@ -153,7 +173,8 @@ class MadeByHand(recorder.Case):
         return [name for _, name in of_events(self.path, answer.stdout)]
 
     def test_a_name(self):
-        for inside, name in ((0, "both_of_them.id of main"), (4, "both_of_them+4 of main"), (8, "both_of_them.sum[0] of main"),
+        for inside, name in ((0, "both_of_them.id of main"), (4, "both_of_them+4 of main"),
+                             (8, "both_of_them.sum[0] of main"),
                              (28, "both_of_them.sum[2]+4 of main"), (40, "-"), (-8, "-")):
             self.write(self.entered(), inside)
             with self.subTest(inside):
@@ -161,17 +182,22 @@ class MadeByHand(recorder.Case):
 
     def test_a_function_that_is_left_names_nothing(self):
         local = END - 8 + self.at
-        name, again, left = "both_of_them.id of main", entry(0, "WRITE", local, self.main + 20, 4), entry(0, "CONTEXT", 0, 0)
+        name, again, left = ("both_of_them.id of main", entry(0, "WRITE", local, self.main + 20, 4),
+                             entry(0, "CONTEXT", 0, 0))
         elsewhere = self.entered(gap=16) + entry(0, "CONTEXT", 2, 0)
-        for behind, names in ((left + entry(1, "WRITE", local, 0x201, 4), [name, "-", "-"]),  # at the second it may have been left
+        # at the second it may have been left
+        for behind, names in ((left + entry(1, "WRITE", local, 0x201, 4), [name, "-", "-"]),
                               (again + left + entry(1, "WRITE", local, 0x201, 4), [name, name, name, "-"]),
-                              (again + elsewhere + entry(1, "WRITE", local, 0x202, 4), [name, name, name, "-"]),
-                              (again + self.entered() + again + entry(1, "WRITE", local, 0x202, 4), [name] * 5)):
+                              (again + elsewhere + entry(1, "WRITE", local, 0x202, 4),
+                               [name, name, name, "-"]),
+                              (again + self.entered() + again + entry(1, "WRITE", local, 0x202, 4),
+                               [name] * 5)):
             self.write(self.entered(), 0, behind=behind)
             self.assertEqual(self.names(), names)
 
     def test_two_frames_of_one_function(self):
-        """The one further out begins 8 bytes below the stack's end, the other one 16 below the stack pointer of that."""
+        """The one further out begins 8 bytes below the stack's end, the other one 16 below the stack
+        pointer of that."""
         inner = entry(0, "PLACE", 16 | 200 << 24, 0) + entry(0, "FRAME", self.main + 12, self.main + 30, 1)
         self.write(self.entered() + inner, 0, gap=8 + 200 + 16)
         self.assertEqual(self.names(), ["both_of_them.id of main"] * 2)
@@ -185,14 +211,18 @@ class MadeByHand(recorder.Case):
         converter, draw = recorder.sanitized(self.folder), random.Random(5)
         numbers = (0, 1, 7, 8, 16, 199, 200, (1 << 24) - 1)
         for _ in range(60):
-            frames = b"".join(self.entered(draw.choice(numbers), draw.choice(numbers), depth) for depth in range(draw.randrange(1, 4)))
-            extra = entry(draw.randrange(3), "PLACE", draw.getrandbits(48), draw.getrandbits(48), draw.randrange(1000))
+            frames = b"".join(self.entered(draw.choice(numbers), draw.choice(numbers), depth)
+                              for depth in range(draw.randrange(1, 4)))
+            extra = entry(draw.randrange(3), "PLACE", draw.getrandbits(48), draw.getrandbits(48),
+                          draw.randrange(1000))
             self.write(frames, behind=extra + entry(1, "WRITE", END - draw.randrange(1 << 13), 0x203, 4))
-            self.assertLessEqual({re.sub(r"[.+].*", "", name) for name in self.names(converter)}, {"both_of_them", "-", "both_of_them of main"})
+            self.assertLessEqual({re.sub(r"[.+].*", "", name) for name in self.names(converter)},
+                                 {"both_of_them", "-", "both_of_them of main"})
 
     def test_hostile_names(self):
         good = self.program.read_bytes()
-        for hostile in (b"a|b\n\t@#!", b"\x1b[2J\xff\xfe\r\n", b"of main\t1", b"<script>", b"\xe2\x80\xae.id of x"):
+        for hostile in (b"a|b\n\t@#!", b"\x1b[2J\xff\xfe\r\n", b"of main\t1", b"<script>",
+                        b"\xe2\x80\xae.id of x"):
             self.program.write_bytes(good.replace(b"both_of_them", hostile[:12].ljust(12, b"_")))
             self.write(self.entered())
             shown = re.sub(rb"[\x00-\x1f|]", b"!", hostile[:12].ljust(12, b"_"))
@@ -202,7 +232,8 @@ class MadeByHand(recorder.Case):
         converter, good = recorder.sanitized(self.folder), self.program.read_bytes()
         self.write(self.entered())
         names = set()
-        for number, content in enumerate([good, *test_members.Damaged.damaged(self, good, test_members.sections(self.program))]):
+        for number, content in enumerate(
+                [good, *test_members.Damaged.damaged(self, good, test_members.sections(self.program))]):
             self.program.write_bytes(content)
             with self.subTest(number):
                 names.update(self.names(converter))

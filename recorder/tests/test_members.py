@@ -1,4 +1,5 @@
-"""Names of what lies inside of variables, by the debug information: of programs, and of programs with it damaged."""
+"""Names of what lies inside of variables, by the debug information: of programs, and of programs
+with it damaged."""
 
 import os
 import random
@@ -17,7 +18,8 @@ def sections(program):
     """Where each section of a program stands in its file."""
     listed = recorder.must(recorder.call("readelf", "-SW", program)).stdout.decode()
     return {name: (int(offset, 16), int(size, 16))
-            for name, offset, size in re.findall(r"\] (\.\S+) +\S+ +[0-9a-f]+ ([0-9a-f]+) ([0-9a-f]+) ", listed)}
+            for name, offset, size in re.findall(r"\] (\.\S+) +\S+ +[0-9a-f]+ ([0-9a-f]+) ([0-9a-f]+) ",
+                                                 listed)}
 
 
 class Members(recorder.Case):
@@ -56,7 +58,8 @@ class Own(recorder.Case):
         for event, line in enumerate(trace, 1):
             access = re.fullmatch(rb"T1[^|]*\|w\((.*?)\)\|(.*)", line)
             if access:
-                found.setdefault(access[2].decode(), set()).add((stacks.local_of(access[1], event) or access[1]).decode())
+                found.setdefault(access[2].decode(),
+                                 set()).add((stacks.local_of(access[1], event) or access[1]).decode())
         return found
 
     def test_members_of_the_cxx_library(self):
@@ -81,34 +84,42 @@ while len(head := sys.stdin.buffer.read(16)) == 16:
 """
 
     def test_they_are_not_asked_for_one_by_one(self):
-        program, record, log, reader = self.folder / "app", self.folder / "app.rec", self.folder / "log", self.folder / "module-reader"
+        program, record, log, reader = (self.folder / "app", self.folder / "app.rec", self.folder / "log",
+                                        self.folder / "module-reader")
         recorder.build(recorder.PROGRAMS / "elements.c", "-O1", program)
         recorder.must(recorder.call(program, env=recorder.settings(record)))
         shutil.copy(recorder.BUILT / "shb-std", self.folder)
-        reader.write_text(self.ASKED.format(python=sys.executable, real=str(recorder.BUILT / "module-reader"), log=str(log)))
+        reader.write_text(self.ASKED.format(python=sys.executable, real=str(recorder.BUILT / "module-reader"),
+                                            log=str(log)))
         reader.chmod(0o755)
         trace = recorder.must(recorder.call(self.folder / "shb-std", record)).stdout.decode()
-        wanted = {f"table[{k}].{of}" for k in range(100000) for of in ("at.y", "parts[1]")} | {"both.count", "both.tail[3]"}
-        wanted |= {f"both.rows[{row}][{k}]" for row in range(4) for k in range(5000)} | {f"both.pairs[{k}]" for k in range(3)}
+        wanted = {f"table[{k}].{of}" for k in range(100000)
+                  for of in ("at.y", "parts[1]")} | {"both.count", "both.tail[3]"}
+        wanted |= {f"both.rows[{row}][{k}]" for row in range(4)
+                   for k in range(5000)} | {f"both.pairs[{k}]" for k in range(3)}
         self.assertEqual(set(re.findall(r"(?m)\|w\((.*)\)\|", trace)), wanted)
         self.assertLess(log.read_text().count("app\n"), 2000)
 
 
 class Blocks(recorder.Case):
-    """What lies in a block is named by the block's type: by what the C++ library allocates, by the line, or by the text at
-    an access. What isn't certain has no name."""
+    """What lies in a block is named by the block's type: by what the C++ library allocates, by the line, or
+    by the text at an access. What isn't certain has no name."""
 
     def found(self, source, compiler, option):
         """By line, the names of what the threads access in blocks, without the blocks' numbers."""
         program, record, path = self.folder / "app", self.folder / "app.rec", self.folder / "app.stacks"
         library = recorder.BUILT / "lib"
-        linked = [f"-B{library}/"] if compiler[0] == "g" else ["-fno-sanitize-link-runtime", f"-L{library}", "-ltsan"]
-        recorder.must(recorder.call(compiler, "-w", "-g", option, "-fsanitize=thread", "-pthread", source, *linked, "-o", program))
+        linked = ([f"-B{library}/"] if compiler[0] == "g"
+                  else ["-fno-sanitize-link-runtime", f"-L{library}", "-ltsan"])
+        recorder.must(recorder.call(compiler, "-w", "-g", option, "-fsanitize=thread", "-pthread", source,
+                                    *linked, "-o", program))
         recorder.must(recorder.call(program, env=recorder.settings(record)))
         trace = recorder.must(recorder.convert(record, "-a", "--stacks", path)).stdout
         names, found = Stacks(path, len(trace.splitlines())).lasting_locals, {}
-        for variable, place in re.findall(rb"(?m)^T\d.*?\|(?:r|w|acq)\((%b:\d+#[+\d]*)\)\|(.*)$" % source.name.encode(), trace):
-            found.setdefault(place.decode(), set()).add(re.sub(r"#\d+$", "", names.get(variable, b"-").decode()))
+        for variable, place in re.findall(rb"(?m)^T\d.*?\|(?:r|w|acq)\((%b:\d+#[+\d]*)\)\|(.*)$"
+                                          % source.name.encode(), trace):
+            found.setdefault(place.decode(), set()).add(
+                re.sub(r"#\d+$", "", names.get(variable, b"-").decode()))
         return found
 
     def check(self, source, count):
@@ -142,22 +153,26 @@ class Blocks(recorder.Case):
 
     def test_what_malloc_gave(self):
         """An object that races is named, in whatever way it comes from there."""
-        source, record, path = recorder.PROGRAMS / "heap_objects.c", self.folder / "app.rec", self.folder / "app.stacks"
+        source, record, path = (recorder.PROGRAMS / "heap_objects.c", self.folder / "app.rec",
+                                self.folder / "app.stacks")
         for form, wanted in enumerate(re.findall(rb" IS (\S+) \*/", source.read_bytes()), 1):
-            words = ["-w", "-g", "-Og", f"-DFORM={form}", "-fsanitize=thread", "-pthread", f"-B{recorder.BUILT}/lib/", source]
+            words = ["-w", "-g", "-Og", f"-DFORM={form}", "-fsanitize=thread", "-pthread",
+                     f"-B{recorder.BUILT}/lib/", source]
             recorder.must(recorder.call("gcc", *words, "-o", self.folder / "app"))
             recorder.must(recorder.call(self.folder / "app", env=recorder.settings(record)))
             trace = recorder.must(recorder.convert(record, "--stacks", path)).stdout
             names = Stacks(path, len(trace.splitlines())).lasting_locals
             with self.subTest(form=form):
-                self.assertEqual({names.get(name) for name in re.findall(rb"\|w\((.*?)\)\|", trace)}, {wanted})
+                self.assertEqual({names.get(name) for name in re.findall(rb"\|w\((.*?)\)\|", trace)},
+                                 {wanted})
 
 
 class Damaged(recorder.Case):
     def record(self, program):
         """One in which two threads write pieces of many sizes of each variable of the program."""
         listed = recorder.must(recorder.call("nm", "-S", program)).stdout.decode()
-        variables = [(int(at, 16), int(size, 16)) for at, size in re.findall(r"(?m)^(\w{16}) (\w{16}) [bBdD] ", listed)]
+        variables = [(int(at, 16), int(size, 16))
+                     for at, size in re.findall(r"(?m)^(\w{16}) (\w{16}) [bBdD] ", listed)]
         self.assertGreater(len(variables), 4)
         entries = [entry(0, "FORK", 1, 0x101), entry(1, "START", 0x30000000, 0x500, 4096)]
         for at, size in variables:
@@ -183,13 +198,15 @@ class Damaged(recorder.Case):
 
     def test_damaged_types_of_blocks(self):
         """A name is there or not, and no access is made that isn't allowed."""
-        program, record, path, names = self.folder / "app", self.folder / "app.rec", self.folder / "app.stacks", set()
+        program, record, path, names = (self.folder / "app", self.folder / "app.rec",
+                                        self.folder / "app.stacks", set())
         recorder.build(recorder.PROGRAMS / "blocks.cc", "-O1", program)
         recorder.must(recorder.call(program, env=recorder.settings(record)))
         good = program.read_bytes()
         for number, content in enumerate([good, *self.damaged(good, sections(program))]):
             program.write_bytes(content)
-            answer = recorder.call(self.converter, "--stacks", path, record, env={**os.environ, "ASAN_OPTIONS": "detect_leaks=0"})
+            answer = recorder.call(self.converter, "--stacks", path, record,
+                                   env={**os.environ, "ASAN_OPTIONS": "detect_leaks=0"})
             with self.subTest(number):
                 self.assertEqual(answer.returncode, 0, answer.stderr[-2000:])
             names.update(Stacks(path, len(answer.stdout.splitlines())).lasting_locals.values())
@@ -198,13 +215,15 @@ class Damaged(recorder.Case):
     def test_damaged_debug_information(self):
         """The trace is one that shb takes, and no access is made that isn't allowed."""
         program, record = self.folder / "app", self.folder / "app.rec"
-        recorder.must(recorder.call("g++", "-w", "-g", "-no-pie", "-pthread", recorder.PROGRAMS / "members.cc", "-o", program))
+        recorder.must(recorder.call("g++", "-w", "-g", "-no-pie", "-pthread",
+                                    recorder.PROGRAMS / "members.cc", "-o", program))
         good, names = program.read_bytes(), set()
         record.write_bytes(self.record(program))
         places = sections(program)
         for number, content in enumerate([good, *self.damaged(good, places)]):
             program.write_bytes(content)
-            answer = recorder.call(self.converter, record, env={**os.environ, "ASAN_OPTIONS": "detect_leaks=0"})
+            answer = recorder.call(self.converter, record,
+                                   env={**os.environ, "ASAN_OPTIONS": "detect_leaks=0"})
             with self.subTest(number):
                 self.assertEqual(answer.returncode, 0, answer.stderr[-2000:])
                 recorder.places(answer.stdout)

@@ -1,4 +1,5 @@
-"""Modules that are damaged, or made to harm who reads them: the trace is there, and a line says what isn't read."""
+"""Modules that are damaged, or made to harm who reads them: the trace is there, and a line says
+what isn't read."""
 
 import os
 import random
@@ -33,25 +34,30 @@ class Recorded(recorder.Case):
         super().setUp()
         source, self.program, self.path = self.folder / "st.c", self.folder / "st", self.folder / "app.rec"
         source.write_text(SOURCE)
-        recorder.must(recorder.call("gcc", "-w", "-g", "-O1", "-fsanitize=thread", f"-B{recorder.BUILT}/lib/", source, "-o", self.program))
+        recorder.must(recorder.call("gcc", "-w", "-g", "-O1", "-fsanitize=thread", f"-B{recorder.BUILT}/lib/",
+                                    source, "-o", self.program))
         recorder.must(recorder.call(self.program, env=recorder.settings(self.path)))
 
     def said(self, answer):
-        return [line for line in answer.stderr.decode(errors="replace").splitlines() if " records, " not in line]
+        return [line for line in answer.stderr.decode(errors="replace").splitlines()
+                if " records, " not in line]
 
 
 class Modules(Recorded):
     def sections(self):
         listed = recorder.must(recorder.call("readelf", "-SW", self.program)).stdout.decode()
         return {name: (int(at, 16), int(size, 16))
-                for name, at, size in re.findall(r"\] (\.\S+) +\S+ +[0-9a-f]+ ([0-9a-f]+) ([0-9a-f]+) ", listed)}
+                for name, at, size in re.findall(r"\] (\.\S+) +\S+ +[0-9a-f]+ ([0-9a-f]+) ([0-9a-f]+) ",
+                                                 listed)}
 
     def test_a_symbol_without_a_name(self):
         """What stands there is named by its address."""
         content, (at, size) = bytearray(self.program.read_bytes()), self.sections()[".symtab"]
         listed = recorder.must(recorder.call("nm", self.program)).stdout.decode()
         variable = int(re.search(r"(?m)^(\w+) B st$", listed)[1], 16)
-        places = [place for place in range(at, at + size, 24) if struct.unpack_from("<Q", content, place + 8)[0] == variable and content[place + 4] & 15 == 1]
+        places = [place for place in range(at, at + size, 24)
+                  if struct.unpack_from("<Q", content, place + 8)[0] == variable
+                  and content[place + 4] & 15 == 1]
         for place in places:
             struct.pack_into("<I", content, place, 0)
         self.assertEqual(len(places), 1)
@@ -61,17 +67,20 @@ class Modules(Recorded):
         self.assertEqual(len(re.findall(rb"(?m)^.*\|w\(0x[0-9a-f]+\)\|st\.c:[37]$", answer.stdout)), 2)
 
     def test_the_budget_of_a_module(self):
-        """Sections that are small in the file, and together more than the budget: one that the rest goes beyond isn't taken."""
+        """Sections that are small in the file, and together more than the budget: one that the rest goes
+        beyond isn't taken."""
         bomb = zlib.compress(bytes(BUDGET // 2), 9)
         part, words = self.folder / "part", []
         for name in (".debug_info", ".debug_abbrev", ".debug_str", ".debug_line", ".debug_ranges"):
             part.write_bytes(struct.pack("<IIQQ", 1, 0, BUDGET // 2, 1) + bomb)
-            words += [f"--update-section={name}={part}"] if name in self.sections() else [f"--add-section={name}={part}"]
+            words += ([f"--update-section={name}={part}"] if name in self.sections()
+                      else [f"--add-section={name}={part}"])
             words += [f"--set-section-flags={name}=contents,readonly"]
         recorder.must(recorder.call("objcopy", *words, self.program))
         self.mark_compressed()
         self.assertLess(self.program.stat().st_size, 8 << 20)
-        with subprocess.Popen([recorder.BUILT / "shb-std", self.path], stdout=subprocess.PIPE, stderr=subprocess.PIPE) as ran:
+        with subprocess.Popen([recorder.BUILT / "shb-std", self.path], stdout=subprocess.PIPE,
+                              stderr=subprocess.PIPE) as ran:
             out, said = ran.stdout.read(), ran.stderr.read().decode()
             _, status, used = os.wait4(ran.pid, 0)
             ran.returncode = status
@@ -89,17 +98,24 @@ class Modules(Recorded):
         names_at, = struct.unpack_from("<Q", content, headers + names * size + 24)
         for header in range(headers, headers + count * size, size):
             name, = struct.unpack_from("<I", content, header)
-            if content[names_at + name:].startswith((b".debug_info\0", b".debug_abbrev\0", b".debug_str\0", b".debug_line\0", b".debug_ranges\0")):
-                struct.pack_into("<Q", content, header + 8, struct.unpack_from("<Q", content, header + 8)[0] | 1 << 11)
+            if content[names_at + name:].startswith(
+                    (b".debug_info\0", b".debug_abbrev\0", b".debug_str\0", b".debug_line\0",
+                     b".debug_ranges\0")):
+                struct.pack_into("<Q", content, header + 8,
+                                 struct.unpack_from("<Q", content, header + 8)[0] | 1 << 11)
         self.program.write_bytes(content)
 
     def test_a_source_file_that_is_a_fifo(self):
         """The line of a call that allocates: it isn't opened, for nobody writes there."""
         source = self.folder / "block.c"
-        source.write_text(SOURCE.replace("pthread_t t;", f'pthread_t t;\n#line 5 "{self.folder}/fifo.c"\n    struct pair *p = malloc(sizeof(struct pair));')
-                          .replace("#include", "#include <stdlib.h>\n#include", 1).replace("&t, 0, run, 0", "&t, 0, run, p")
-                          .replace("st.b++; return p", "((struct pair *)p)->b++; return p").replace("    st.b++;", "    p->b++;"))
-        recorder.must(recorder.call("gcc", "-w", "-g", "-O1", "-fsanitize=thread", f"-B{recorder.BUILT}/lib/", source, "-o", self.program))
+        source.write_text(SOURCE.replace("pthread_t t;", f'pthread_t t;\n#line 5 "{self.folder}/fifo.c"\n    '
+                                                         'struct pair *p = malloc(sizeof(struct pair));')
+                          .replace("#include", "#include <stdlib.h>\n#include",
+                                   1).replace("&t, 0, run, 0", "&t, 0, run, p")
+                          .replace("st.b++; return p",
+                                   "((struct pair *)p)->b++; return p").replace("    st.b++;", "    p->b++;"))
+        recorder.must(recorder.call("gcc", "-w", "-g", "-O1", "-fsanitize=thread", f"-B{recorder.BUILT}/lib/",
+                                    source, "-o", self.program))
         recorder.must(recorder.call(self.program, env=recorder.settings(self.path)))
         os.mkfifo(self.folder / "fifo.c")
         answer = recorder.must(recorder.convert(self.path, "--stacks", self.folder / "stacks"))
@@ -110,16 +126,18 @@ class Modules(Recorded):
         """Whether it allocates is asked of all that it comes from."""
         source, text = self.folder / "self.c", self.folder / "self.s"
         source.write_text("#include <pthread.h>\n#include <stdlib.h>\n"
-                          "__attribute__((noinline)) int *make_unique(void) { int *p = malloc(4); *p = 1; return p; }\n"
-                          "void *run(void *p) { ++*(int *)p; return p; }\n"
-                          "int main(void) {\n    pthread_t t;\n    int *p = make_unique();\n    pthread_create(&t, 0, run, p);\n    ++*p;\n"
-                          "    return pthread_join(t, 0);\n}\n")
-        words = ["gcc", "-w", "-g", "-gdwarf-4", "-O1", "-fno-lto", "-fsanitize=thread", f"-B{recorder.BUILT}/lib/"]
+                          "__attribute__((noinline)) int *make_unique(void) { int *p = malloc(4); *p = 1; "
+                          "return p; }\nvoid *run(void *p) { ++*(int *)p; return p; }\n"
+                          "int main(void) {\n    pthread_t t;\n    int *p = make_unique();\n    "
+                          "pthread_create(&t, 0, run, p);\n    ++*p;\n    return pthread_join(t, 0);\n}\n")
+        words = ["gcc", "-w", "-g", "-gdwarf-4", "-O1", "-fno-lto", "-fsanitize=thread",
+                 f"-B{recorder.BUILT}/lib/"]
         recorder.must(recorder.call(*words, "-dA", "-S", source, "-o", text))
         parts = re.split(r"(?=\t\.uleb128 0x\w+\t# \((?:DIE|abbrev code))", text.read_text())
         [entry] = [k for k, part in enumerate(parts) if '# DW_AT_name: "make_unique"' in part]
         number, offset = re.match(r"\t\.uleb128 (0x\w+)\t# \(DIE \((0x\w+)\)", parts[entry]).groups()
-        [form] = [k for k, part in enumerate(parts) if part.startswith(f"\t.uleb128 {number}\t# (abbrev code)")]
+        [form] = [k for k, part in enumerate(parts)
+                  if part.startswith(f"\t.uleb128 {number}\t# (abbrev code)")]
         parts[entry] = re.sub(r"0x\w+(\t# DW_AT_type)", rf"{offset}\1", parts[entry])
         parts[form] = re.sub(r"0x49(\t# \(DW_AT_type\))", r"0x47\1", parts[form])  # DW_AT_specification
         text.write_text("".join(parts))
@@ -163,12 +181,16 @@ class Readers(Recorded):
             answer = self.convert(script)
             self.check(answer)
             self.assertEqual(len(self.said(answer)), 1)
-            self.assertRegex(self.said(answer)[0], r"^shb-std: names and places are addresses, for .*module-reader can't be run; it needs libdw\.so\.1 of elfutils$")
+            self.assertRegex(self.said(answer)[0],
+                             r"^shb-std: names and places are addresses, for .*module-reader can't be run; "
+                             r"it needs libdw\.so\.1 of elfutils$")
 
     def test_it_ends(self):
-        for script, why in (("exit 1", "debug information can't be read: it takes too much memory"), ("kill -XCPU $$", "debug information can't be read: it takes too much time"),
+        for script, why in (("exit 1", "debug information can't be read: it takes too much memory"),
+                            ("kill -XCPU $$", "debug information can't be read: it takes too much time"),
                             ("kill -SEGV $$", "debug information can't be read: its reader crashed"),
-                            ("kill -KILL $$", "debug information can't be read: its reader was ended by the system, perhaps for memory")):
+                            ("kill -KILL $$", "debug information can't be read: its reader was ended by the "
+                                              "system, perhaps for memory")):
             answer = self.convert(script)
             self.check(answer)
             self.assertIn(f"shb-std: {self.program}{MAY_BE_ADDRESSES}{why}", self.said(answer))
@@ -187,27 +209,34 @@ class Readers(Recorded):
     def test_the_limit_of_time(self):
         """A reader that is as it should be but for one endless answer."""
         folder = self.reader("endless", ("reader/main.c", "SECONDS = 120", "SECONDS = 1"),
-                             ("reader/main.c", "case ASK_SOURCES: each_source(d, give_source); break;", "case ASK_SOURCES: for (;;) ;"))
+                             ("reader/main.c", "case ASK_SOURCES: each_source(d, give_source); break;",
+                              "case ASK_SOURCES: for (;;) ;"))
         answer = self.convert(f'exec "{folder}/module-reader" "$1"')
         self.check(answer)
-        self.assertEqual(self.said(answer)[0], f"shb-std: {self.program}{MAY_BE_ADDRESSES}debug information can't be read: it takes too much time")
+        self.assertEqual(self.said(answer)[0], f"shb-std: {self.program}{MAY_BE_ADDRESSES}debug information "
+                                               "can't be read: it takes too much time")
 
     def test_the_limit_of_all_readers(self):
         folder = self.reader("short", ("converter/readers.c", "MOST_SECONDS = 360", "MOST_SECONDS = 0"))
         answer = recorder.must(recorder.call(folder / "shb-std", self.path))
         self.check(answer)
-        self.assertEqual(self.said(answer)[0], f"shb-std: {self.program}{MAY_BE_ADDRESSES}debug information can't be read: all modules together take too much time")
+        self.assertEqual(self.said(answer)[0], f"shb-std: {self.program}{MAY_BE_ADDRESSES}debug information "
+                                               "can't be read: all modules together take too much time")
 
     def test_the_limit_of_memory_of_all_readers(self):
         """The one that holds most is ended, and no other."""
-        folder = self.reader("held", ("converter/readers.c", "(sysconf(_SC_PHYS_PAGES) / 2 * sysconf(_SC_PAGESIZE))", "(64 << 20)"))
+        folder = self.reader("held", ("converter/readers.c", "(sysconf(_SC_PHYS_PAGES) / 2 * "
+                                                             "sysconf(_SC_PAGESIZE))", "(64 << 20)"))
         (folder / "module-reader").rename(folder / "real")
         stand_in = folder / "module-reader"
-        for held, why in (0, []), (100, [f"shb-std: {self.program}{MAY_BE_ADDRESSES}debug information can't be read: all modules together take too much memory"]):
-            stand_in.write_text(f"#!{sys.executable}\nimport subprocess, sys\nheld = b'x' * ({held} << 20) if sys.argv[1] == {str(self.program)!r} else b''\n"
-                                f"sys.exit(subprocess.call([{str(folder / 'real')!r}, sys.argv[1]]))\n")
+        for held, why in (0, []), (100, [f"shb-std: {self.program}{MAY_BE_ADDRESSES}debug information can't "
+                                         "be read: all modules together take too much memory"]):
+            stand_in.write_text(f"#!{sys.executable}\nimport subprocess, sys\nheld = b'x' * ({held} << 20) "
+                                f"if sys.argv[1] == {str(self.program)!r} else "
+                                f"b''\nsys.exit(subprocess.call([{str(folder / 'real')!r}, sys.argv[1]]))\n")
             stand_in.chmod(0o755)
-            answer = recorder.must(recorder.call(folder / "shb-std", "--stacks", self.folder / "stacks", self.path))
+            answer = recorder.must(recorder.call(folder / "shb-std", "--stacks", self.folder / "stacks",
+                                                 self.path))
             self.assertEqual(self.said(answer), why)
 
     STAND_IN = """import os, signal, struct, subprocess, sys
@@ -226,7 +255,9 @@ os.kill(os.getpid(), signal.SIGSEGV)
         """Of a row, a text, or between answers: what came before counts."""
         whole = recorder.places(recorder.must(recorder.convert(self.path)).stdout)
         self.assertEqual(len(whole), 1)
-        stand_in, crashed, met = self.folder / "stand_in.py", f"shb-std: {self.program}{MAY_BE_ADDRESSES}debug information can't be read: its reader crashed", set()
+        stand_in, crashed, met = (self.folder / "stand_in.py",
+                                  f"shb-std: {self.program}{MAY_BE_ADDRESSES}debug information can't be "
+                                  "read: its reader crashed", set())
         for left in 0, 1, 23, 24, 30, 60, 150, 400, 700, 800:
             stand_in.write_text(self.STAND_IN.format(real=str(recorder.BUILT / "module-reader"), left=left))
             answer = self.convert(f'[ "$1" = "{self.program}" ] || exit 1\nexec python3 "{stand_in}" "$1"')
@@ -261,52 +292,68 @@ while True:
 """
 
     def test_answers_that_do_not_end_or_come_in_another_order(self):
-        """Of sources there are too many, of frames more than one address has, or those of one address again; a symbol is elsewhere."""
+        """Of sources there are too many, of frames more than one address has, or those of one address again;
+        a symbol is elsewhere."""
         for number, script in enumerate((
                 "while kind == SOURCES: give(row(0, 0, b'/a') * 10000)",
                 "while kind == FRAMES: give(row(0, 1, b'f', b'/a/b.c') * 10000)",
-                "while kind == FRAMES: give((row(0, 1, b'f', b'/a/b.c') + row(1, 1, b'f', b'/a/b.c')) * 10000)",
+                "while kind == FRAMES: give((row(0, 1, b'f', b'/a/b.c') + row(1, 1, b'f', b'/a/b.c')) * "
+                "10000)",
                 "if kind == FRAMES: give(row(count, 1, b'f', b'/a/b.c'))",
                 "if kind == SYMBOLS: give(row(numbers[0] - 8, 8 << 1, b'name'))",
                 "if kind == SYMBOLS: give(row(numbers[0], 8 << 1, b'name') * 2)")):
             (self.folder / "answers.py").write_text(self.ANSWERS.format(script=script))
             answer = self.convert(f'exec python3 "{self.folder}/answers.py"')
             self.assertEqual(len(recorder.places(answer.stdout)), 1, number)
-            self.assertIn(f"shb-std: {self.program}: names and places may be addresses, for its reader gave a wrong answer", self.said(answer), number)
+            self.assertIn(f"shb-std: {self.program}: names and places may be addresses, for its reader gave "
+                          "a wrong answer", self.said(answer), number)
 
     def test_the_symbols_of_a_page_are_asked_for_together(self):
-        """However many of them the record has, and in whatever order; one that goes on in the next page is there too."""
+        """However many of them the record has, and in whatever order; one that goes on in the next page
+        is there too."""
         log, modules, base = self.folder / "log", f"10000 ffffff 8000 {self.program}\n".encode(), 0x8000
         (self.folder / "answers.py").write_text(self.ANSWERS.format(script=(
             f"if kind == SYMBOLS: open({str(log)!r}, 'a').write(f'{{numbers[0]:x}}\\n');"
-            "give(b''.join(row(at, 8 << 1, b'v%x' % at) for at in range(numbers[0] - 4, numbers[0] + 0x1000, 8)))")))
+            "give(b''.join(row(at, 8 << 1, b'v%x' % at) for at in range(numbers[0] - 4, numbers[0] + 0x1000, "
+            "8)))")))
         addresses = range(0x22ff8, 0x20ff8, -8)
         writes = b"".join(entry(thread, "WRITE", at, 0x101, 4) for thread in (0, 1) for at in addresses)
-        self.path.write_bytes((HEADER.rstrip(b"whole\0") + modules).ljust(65536 - 256, b"\0") + HEADER[-256:] + entry(0, "FORK", 1, 0x100) + writes)
+        self.path.write_bytes((HEADER.rstrip(b"whole\0") + modules).ljust(65536 - 256, b"\0") + HEADER[-256:]
+                              + entry(0, "FORK", 1, 0x100) + writes)
         trace = self.convert(f'exec python3 "{self.folder}/answers.py"').stdout
-        self.assertEqual(re.findall(rb"(?m)^main\|w\((.*)\)\|", trace), [b"v%x+4" % (at - base - 4) for at in addresses])
+        self.assertEqual(re.findall(rb"(?m)^main\|w\((.*)\)\|", trace),
+                         [b"v%x+4" % (at - base - 4) for at in addresses])
         self.assertEqual(sorted(log.read_text().split()), ["19000", "1a000"])
 
     def test_answers_behind_the_last_page(self):
-        """A module's base may be above its addresses; then the page is the last of the address space, and a symbol that fills it is the last."""
+        """A module's base may be above its addresses; then the page is the last of the address space, and a
+        symbol that fills it is the last."""
         modules = f"10000 ffffff 21000 {self.program}\n".encode()
-        (self.folder / "answers.py").write_text(self.ANSWERS.format(script="if kind == SYMBOLS: give(row(numbers[0], 0x1000 << 1, b'a') + row(numbers[0], 8 << 1, b'b'))"))
+        (self.folder / "answers.py").write_text(self.ANSWERS.format(script="if kind == SYMBOLS: "
+                                                                    "give(row(numbers[0], 0x1000 << 1, b'a') "
+                                                                    "+ row(numbers[0], 8 << 1, b'b'))"))
         writes = b"".join(entry(thread, "WRITE", 0x20000, 0x101, 4) for thread in (0, 1))
-        self.path.write_bytes((HEADER.rstrip(b"whole\0") + modules).ljust(65536 - 256, b"\0") + HEADER[-256:] + entry(0, "FORK", 1, 0x100) + writes)
+        self.path.write_bytes((HEADER.rstrip(b"whole\0") + modules).ljust(65536 - 256, b"\0") + HEADER[-256:]
+                              + entry(0, "FORK", 1, 0x100) + writes)
         answer = self.convert(f'exec python3 "{self.folder}/answers.py"')
-        self.assertIn(f"shb-std: {self.program}: names and places may be addresses, for its reader gave a wrong answer", self.said(answer))
+        self.assertIn(f"shb-std: {self.program}: names and places may be addresses, for its reader gave a "
+                      "wrong answer", self.said(answer))
 
     def test_a_source_file_comes_once(self):
         """Also a header of several files."""
         parts = []
         (self.folder / "both.h").write_text("static inline int *one(int *p) { return p + *p; }\n")
         for name in "a.c", "b.c":
-            (self.folder / name).write_text(f'#include "both.h"\nint *of_{name[0]}(int *p) {{ return one(p); }}\n')
+            (self.folder / name).write_text(f'#include "both.h"\nint *of_{name[0]}(int *p) {{ return one(p); '
+                                            '}\n')
             parts.append(self.folder / name)
         library = self.folder / "both.so"
         recorder.must(recorder.call("gcc", "-g", "-O1", "-shared", "-fPIC", *parts, "-o", library))
-        sources = re.search(r"enum request_kind \{(.*?)ASK_SOURCES", (recorder.SOURCES / "converter/answers.h").read_text(), re.S)[1].count("ASK_")
-        answer, found = recorder.must(recorder.call(recorder.BUILT / "module-reader", library, input=struct.pack("<QQ", sources, 0))).stdout, []
+        sources = re.search(r"enum request_kind \{(.*?)ASK_SOURCES",
+                            (recorder.SOURCES / "converter/answers.h").read_text(), re.S)[1].count("ASK_")
+        answer, found = (
+            recorder.must(recorder.call(recorder.BUILT / "module-reader", library,
+                                        input=struct.pack("<QQ", sources, 0))).stdout, [])
         while struct.unpack_from("<I", answer, 16)[0] != 0x7fffffff:
             first, second = struct.unpack_from("<II", answer, 16)
             found.append(answer[24:24 + first].decode())
@@ -318,7 +365,8 @@ while True:
         """And it is told of no server."""
         log, path = self.folder / "log", self.folder / "two.rec"
         modules = f"0 200 0 {self.program}\n200 ffffff 0 {self.program}\n".encode()
-        path.write_bytes((HEADER.rstrip(b"whole\0") + modules).ljust(65536 - 256, b"\0") + HEADER[-256:] + ENTRIES)
+        path.write_bytes((HEADER.rstrip(b"whole\0") + modules).ljust(65536 - 256, b"\0") + HEADER[-256:]
+                         + ENTRIES)
         self.path = path
         os.environ["DEBUGINFOD_URLS"] = "http://127.0.0.1:9"
         self.addCleanup(os.environ.pop, "DEBUGINFOD_URLS")
@@ -333,9 +381,12 @@ while True:
         for _ in range(90):
             answers = b""
             for _ in range(draw.randrange(1, 40)):
-                texts = [draw.choice((b"", b"st", b"/a/b.c", b"a|b\n)", b"\0", bytes(draw.randrange(300)))) for _ in range(2)]
-                lengths = [len(text) if draw.random() < 0.9 else draw.choice((20000, (1 << 32) - 1)) for text in texts]
-                answers += struct.pack("<QQII", draw.choice(numbers), draw.choice(numbers), *lengths) + b"".join(texts)
+                texts = [draw.choice((b"", b"st", b"/a/b.c", b"a|b\n)", b"\0", bytes(draw.randrange(300))))
+                         for _ in range(2)]
+                lengths = [len(text) if draw.random() < 0.9 else draw.choice((20000, (1 << 32) - 1))
+                           for text in texts]
+                answers += (struct.pack("<QQII", draw.choice(numbers), draw.choice(numbers), *lengths)
+                            + b"".join(texts))
                 answers += end * draw.randrange(3)
             file.write_bytes(answers)
             answer = self.convert(f"exec cat {file}")

@@ -1,4 +1,5 @@
-"""Names that people read: of threads, globals, heap blocks, stacks and places; and those that programs are linked with."""
+"""Names that people read: of threads, globals, heap blocks, stacks and places; and those that programs
+are linked with."""
 
 import collections
 import pathlib
@@ -9,7 +10,9 @@ import recorder
 # What a program defines and the library calls, if it is there: nobody calls it by these names.
 FOR_PROGRAMS = re.compile("__(tsan_(default_|on_|symbolize_external|test_only_on_fork)|sancov_default_|"
                           "sanitizer_(malloc_hook|free_hook|on_print|weak_hook_))")
-INTERFACE = re.compile("(__tsan_|__sanitizer_|__sancov_|Annotate|WTFAnnotate|RunningOnValgrind|ValgrindSlowdown|ThreadSanitizerQuery)")
+INTERFACE = re.compile(
+    "(__tsan_|__sanitizer_|__sancov_|Annotate|WTFAnnotate|RunningOnValgrind|ValgrindSlowdown"
+    "|ThreadSanitizerQuery)")
 
 
 # What else gcc's library exports and a program needn't find in ours, and why.
@@ -60,13 +63,16 @@ class Names(recorder.Case):
             self.assertEqual(wanted - exported(recorder.BUILT / "lib" / "libtsan.so"), set(), library)
 
     def test_the_names_that_gcc_finds_in_its_library(self):
-        """A program asks for these without a version: each is in ours, or the C library has it in one version alone."""
+        """A program asks for these without a version: each is in ours, or the C library has it in
+        one version alone."""
         tsan = library_of_gcc("libtsan.so")
         if not tsan:
             self.skipTest("gcc has no libtsan")
-        of_c_library = versions(library_of_gcc("libc.so.6")) | versions(library_of_gcc("libm.so.6"))  # the greater number
+        # the greater number
+        of_c_library = versions(library_of_gcc("libc.so.6")) | versions(library_of_gcc("libm.so.6"))
         names, ours = versions(tsan), versions(recorder.BUILT / "lib" / "libtsan.so")
-        wanted = {name for name in names if of_c_library[name] != 1 and not FOR_PROGRAMS.match(name) and not LEFT_OUT.fullmatch(name)}
+        wanted = {name for name in names if of_c_library[name] != 1 and not FOR_PROGRAMS.match(name)
+                  and not LEFT_OUT.fullmatch(name)}
         self.assertGreater(len(wanted), 300)
         self.assertEqual(wanted - set(ours), set())
 
@@ -74,9 +80,12 @@ class Names(recorder.Case):
         recorder.build(recorder.PROGRAMS / "names.c", "-O1", self.folder / "app")
         recorder.must(recorder.call(self.folder / "app", env=recorder.settings(self.folder / "app.rec")))
         trace = recorder.must(recorder.convert(self.folder / "app.rec")).stdout.decode()
-        for line in (r"main\|fork\(T1\.work\)\|names\.c:24", r"T1\.work\|w\(table\[1\]\.second\)\|names\.c:14",
-                     r"main\|w\(table\[1\]\.second\)\|names\.c:14", r"T2\.work\|w\(names\.c:22#\d+\+4\)\|names\.c:15",
-                     r"T1\.work\|w\(stack\.main-0x[0-9a-f]+\)\|names\.c:16", r"main\|join\(T2\.work\)\|names\.c:26"):
+        for line in (r"main\|fork\(T1\.work\)\|names\.c:24",
+                     r"T1\.work\|w\(table\[1\]\.second\)\|names\.c:14",
+                     r"main\|w\(table\[1\]\.second\)\|names\.c:14",
+                     r"T2\.work\|w\(names\.c:22#\d+\+4\)\|names\.c:15",
+                     r"T1\.work\|w\(stack\.main-0x[0-9a-f]+\)\|names\.c:16",
+                     r"main\|join\(T2\.work\)\|names\.c:26"):
             self.assertRegex(trace, rf"(?m)^{line}$")
         blocks = re.findall(r"^main\|w\((names\.c:22#\d+\+4)\)", trace, re.M)
         self.assertEqual(len(set(blocks)), 2, "an address that is used again is a new variable")
@@ -87,7 +96,8 @@ class Threads(recorder.Case):
 
     def test_names_of_threads(self):
         source, record = recorder.PROGRAMS / "thread_names.c", self.folder / "app.rec"
-        wanted = {(name, f"thread_names.c:{number}") for number, line in enumerate(source.read_text().splitlines(), 1)
+        wanted = {(name, f"thread_names.c:{number}")
+                  for number, line in enumerate(source.read_text().splitlines(), 1)
                   for name in re.findall(r"/\* NAMED (.*?) \*/", line)}
         for option in ("-O0", "-O1", "-O2"):
             recorder.build(source, option, self.folder / "app")
@@ -95,17 +105,18 @@ class Threads(recorder.Case):
             trace = recorder.must(recorder.convert(record)).stdout.decode()
             with self.subTest(option):
                 self.assertEqual(set(re.findall(r"(?m)^T\d+\.(.*?)\|w\(shared\)\|(.*)$", trace)), wanted)
-                self.assertEqual(set(re.findall(r"(?m)^main\|(?:fork|join)\(T\d+\.(.*)\)\|", trace)), {name for name, _ in wanted})
+                self.assertEqual(set(re.findall(r"(?m)^main\|(?:fork|join)\(T\d+\.(.*)\)\|", trace)),
+                                 {name for name, _ in wanted})
 
 
     def test_a_thread_of_the_cxx_library(self):
         """It has the name of the first function of the program's own that it enters."""
         source = self.folder / "own.cc"
-        source.write_text("#include <thread>\nint shared;\nvoid __attribute__((noinline)) deeper() { shared++; }\n"
-                          "void __attribute__((noinline)) work(int n) { shared += n; deeper(); }\n"
-                          "namespace { void __attribute__((noinline)) apart() { deeper(); } }\n"
-                          "int main() {\n    std::thread t(work, 1), u([] { shared++; }), v(apart);\n    t.join();\n    u.join();\n"
-                          "    v.join();\n}\n")
+        source.write_text("#include <thread>\nint shared;\nvoid __attribute__((noinline)) deeper() { "
+                          "shared++; }\nvoid __attribute__((noinline)) work(int n) { shared += n; deeper(); "
+                          "}\nnamespace { void __attribute__((noinline)) apart() { deeper(); } }\n"
+                          "int main() {\n    std::thread t(work, 1), u([] { shared++; }), v(apart);\n    "
+                          "t.join();\n    u.join();\n    v.join();\n}\n")
         names = ["T1.work", "T2.main::lambda", "T3.apart"]
         for option in "-O0", "-O1", "-O2":
             recorder.build(source, option, self.folder / "app")
@@ -116,21 +127,28 @@ class Threads(recorder.Case):
     def test_a_thread_that_runs_a_lambda(self):
         """It is named by the function that the lambda stands in, wherever the compiler puts it."""
         source = self.folder / "own.cc"
-        source.write_text("#include <future>\n#include <thread>\n#include <vector>\nint shared;\nstatic void start(std::vector<int> v) {\n"
-                          "    std::thread t([&] { shared += v[0]; });\n    t.join();\n}\n"
-                          "template <class F> void __attribute__((noinline)) call(F f) { std::thread t([=] { f(1); }); t.join(); }\n"
-                          "struct Pool {\n    std::thread t{[this] { n++; shared++; }};\n    int n = 0;\n    ~Pool() { t.join(); }\n};\n"
-                          "int main() {\n    start({1, 2});\n    call([](int i) { shared += i; });\n    Pool p;\n"
-                          "    std::async(std::launch::async, [] { shared++; }).get();\n    shared++;\n}\n")
+        source.write_text("#include <future>\n#include <thread>\n#include <vector>\nint shared;\nstatic void "
+                          "start(std::vector<int> v) {\n    std::thread t([&] { shared += v[0]; });\n    "
+                          "t.join();\n}\ntemplate <class F> void __attribute__((noinline)) call(F f) { "
+                          "std::thread t([=] { f(1); }); t.join(); }\nstruct Pool {\n    std::thread "
+                          "t{[this] { n++; shared++; }};\n    int n = 0;\n    ~Pool() { t.join(); }\n};\nint "
+                          "main() {\n    start({1, 2});\n    call([](int i) { shared += i; });\n    Pool "
+                          "p;\n    std::async(std::launch::async, [] { shared++; }).get();\n    "
+                          "shared++;\n}\n")
         for option in "-O0", "-O1", "-O2":
             recorder.build(source, option, self.folder / "app")
             recorder.must(recorder.call(self.folder / "app", env=recorder.settings(self.folder / "app.rec")))
             stacks = self.folder / "stacks"
-            trace = recorder.must(recorder.convert(self.folder / "app.rec", "-a", "--stacks", stacks)).stdout.decode()
+            trace = recorder.must(recorder.convert(self.folder / "app.rec", "-a", "--stacks",
+                                                   stacks)).stdout.decode()
             found = re.findall(r"(?m)^main\|fork\((.*?)\)", trace)
-            self.assertRegex("\n".join(found), r"\AT1\.start::lambda\nT2\.main::lambda\nT3\.Pool::\S*lambda\nT4\.main::lambda\Z", option)
-            frames = re.findall(r"(?m)^frame (.*(?:lambda|operator).*)\t(own\.cc:(?:6|11|19))$", stacks.read_text(errors="replace"))
-            self.assertEqual(set(frames), {("start::lambda", "own.cc:6"), (found[2][3:], "own.cc:11"), ("main::lambda", "own.cc:19")}, option)
+            names = r"\AT1\.start::lambda\nT2\.main::lambda\nT3\.Pool::\S*lambda\nT4\.main::lambda\Z"
+            self.assertRegex("\n".join(found), names, option)
+            frames = re.findall(r"(?m)^frame (.*(?:lambda|operator).*)\t(own\.cc:(?:6|11|19))$",
+                                stacks.read_text(errors="replace"))
+            self.assertEqual(set(frames),
+                             {("start::lambda", "own.cc:6"), (found[2][3:], "own.cc:11"),
+                              ("main::lambda", "own.cc:19")}, option)
 
 
 
@@ -141,7 +159,8 @@ class Files(recorder.Case):
         """The threads' locations in a record of the program with two such files."""
         program = folder / "the program"
         sources = recorder.two_of_one_name(folder)
-        recorder.must(recorder.call("gcc", "-g", "-fsanitize=thread", "-pthread", f"-B{recorder.BUILT}/lib/", *sources, "-o", program))
+        recorder.must(recorder.call("gcc", "-g", "-fsanitize=thread", "-pthread", f"-B{recorder.BUILT}/lib/",
+                                    *sources, "-o", program))
         recorder.must(recorder.call(program, *words, env=recorder.settings(self.folder / "app.rec")))
 
     def locations(self, *options):
@@ -149,7 +168,8 @@ class Files(recorder.Case):
         return set(re.findall(r"(?m)^T.*\|w\(.*\|(.*)$", trace))
 
     def test_two_files_of_one_name(self):
-        for name in ("plain", "with two  blanks", "(in parentheses)", "it's", "-dash", "a:1", 'q"$(x)\\', "line\nend", "\u00e4"):
+        for name in ("plain", "with two  blanks", "(in parentheses)", "it's", "-dash", "a:1", 'q"$(x)\\',
+                     "line\nend", "\u00e4"):
             with self.subTest(name):
                 folder = self.folder / name / "sources"
                 self.record(folder)
@@ -157,7 +177,8 @@ class Files(recorder.Case):
                 self.assertEqual(self.locations("--strip", folder / "a"), {"util.c:3", "b/util.c:3"})
                 self.assertEqual(self.locations("--strip", self.folder),
                                  {f"{name}/sources/{file}/util.c:3".replace("\n", "!") for file in "ab"})
-                self.assertEqual(self.locations("--strip", "/"), {f"{folder}/{file}/util.c:3"[1:].replace("\n", "!") for file in "ab"})
+                self.assertEqual(self.locations("--strip", "/"),
+                                 {f"{folder}/{file}/util.c:3"[1:].replace("\n", "!") for file in "ab"})
 
     def test_names_are_the_same_whatever_ran(self):
         self.record(self.folder / "sources", "a alone")

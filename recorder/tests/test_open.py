@@ -1,5 +1,5 @@
-"""What `shb-std -r` leaves out has no race: records drawn at random have the same places with it and without. Of a variable that races
-each thread's accesses at each place are there."""
+"""What `shb-std -r` leaves out has no race: records drawn at random have the same places with it and without.
+Of a variable that races each thread's accesses at each place are there."""
 
 import random
 import re
@@ -10,14 +10,15 @@ from analysis import Step
 from test_record import HEADER, entry
 
 ORDERS = 0, 2, 3, 4, 5  # relaxed, acquire, release, both, sequentially consistent
-# What the threads of a record do: read, write, lock (X: for readers), atomics, fences, semaphores (P: post alone).
+# What the threads of a record do: read, write, lock (X: for readers), atomics, fences, semaphores (P:
+# post alone).
 WORDS = ["RW", "RWL", "RWA", "AR", "RWLS", "RWALFS", "RWP", "RWPX", "RWLX", "RWX"]
 ATOMICS = "ATOMIC_LOAD", "ATOMIC_STORE", "ATOMIC_UPDATE"
 
 
 class Drawn:
-    """A record. A thread goes on for a while, at few places, so that accesses repeat. Threads are joined by any other, or detached, also those that
-    did nothing, and their numbers are used again."""
+    """A record. A thread goes on for a while, at few places, so that accesses repeat. Threads are joined by
+    any other, or detached, also those that did nothing, and their numbers are used again."""
 
     all_words, sizes, longest_run = WORDS, (4, 4, 8, 16), 8
 
@@ -39,7 +40,8 @@ class Drawn:
 
     @property
     def entries(self):
-        return [entry(step.thread, step.operation, step.address, step.place, step.size) for step in self.steps]
+        return [entry(step.thread, step.operation, step.address, step.place, step.size)
+                for step in self.steps]
 
     def step(self, word):
         cell = self.draw.choice(self.cells)
@@ -69,7 +71,8 @@ class Drawn:
             self.readers.discard(self.thread)
             self.owners.pop(lock, None)
             self.add("RW_UNLOCK", lock)
-        elif lock not in self.owners and self.readers | {self.draw.choice((None, self.thread))} == self.readers | {self.thread}:
+        elif (lock not in self.owners and self.readers | {self.draw.choice((None, self.thread))}
+              == self.readers | {self.thread}):
             self.readers.add(self.thread)
             self.add("READ_LOCK", lock)
         elif lock not in self.owners and not self.readers:
@@ -99,11 +102,13 @@ class Drawn:
 def races(trace):
     """The places of a trace, and the variables of their races."""
     listed = recorder.must(recorder.call(recorder.SHB, "races", "--list", input=trace)).stdout.decode()
-    return set(re.findall(r"^at (.*)\nand (.*)$", listed, re.M)), set(re.findall(r"^first .*?\|\w\((.*)\)\|", listed, re.M))
+    return (set(re.findall(r"^at (.*)\nand (.*)$", listed, re.M)),
+            set(re.findall(r"^first .*?\|\w\((.*)\)\|", listed, re.M)))
 
 
 def trace_of(folder, drawn, *words):
-    """The trace of drawn entries. By --list, for a number that is used again is another thread, of which else there may be 1,024."""
+    """The trace of drawn entries. By --list, for a number that is used again is another thread, of which else
+    there may be 1,024."""
     record = folder / "app.rec"
     record.write_bytes(HEADER + b"".join(drawn.entries))
     return recorder.must(recorder.call(*words, "--list", record)).stdout
@@ -124,7 +129,8 @@ def planted(folder, name, before, after):
     if text.count(before) != 1:
         raise AssertionError(f"{name} has {text.count(before)} times {before}")
     path.write_text(text.replace(before, after))
-    recorder.must(recorder.call("gcc", "-w", "-O0", "-mpopcnt", *sorted((folder / "converter").glob("*.c")), "-o", folder / "shb-std"))
+    recorder.must(recorder.call("gcc", "-w", "-O0", "-mpopcnt", *sorted((folder / "converter").glob("*.c")),
+                                "-o", folder / "shb-std"))
     return folder / "shb-std"
 
 
@@ -152,21 +158,26 @@ class Limits(recorder.Case):
     """What a record of gigabytes would reach, with limits that a drawn one reaches."""
 
     def test_more_variables_than_are_numbered(self):
-        limited, record = planted(self.folder / "limited", "converter.h", "MOST_PIECES = (1u << 30) - 1", "MOST_PIECES = 2"), self.folder / "app.rec"
+        limited, record = (planted(self.folder / "limited", "converter.h", "MOST_PIECES = (1u << 30) - 1",
+                                   "MOST_PIECES = 2"), self.folder / "app.rec")
         used = [entry(thread, "WRITE", 0x5000 + 8 * k, 0x200, 8) for k in range(3) for thread in (0, 1)]
         for accesses, status in ((used[:4], 0), (used, 2)):
             record.write_bytes(HEADER + b"".join([entry(0, "FORK", 1, 0x100), *accesses]))
             answer = recorder.call(limited, record)
-            self.assertEqual((answer.returncode, b"more variables than shb-std takes (2)" in answer.stderr), (status, status == 2))
+            self.assertEqual((answer.returncode, b"more variables than shb-std takes (2)" in answer.stderr),
+                             (status, status == 2))
 
     def test_a_race_of_accesses_far_apart_leaves_room_for_others(self):
-        """Between the accesses of x are 22,000 events that a page would keep, those of a lock; y stands behind them."""
+        """Between the accesses of x are 22,000 events that a page would keep, those of a lock; y
+        stands behind them."""
         locks = [entry(k // 2 % 2, ("LOCK", "UNLOCK")[k % 2], 0x6000, 0x200) for k in range(22_000)]
         x, y = ([entry(thread, "WRITE", at, 0x100, 8) for thread in (1, 0)] for at in (0x5000, 0x5008))
         record, page, uses = (self.folder / name for name in ("app.rec", "page.std", "uses"))
-        record.write_bytes(HEADER + b"".join([entry(0, "FORK", 1, 0x100), *locks[2:4], x[0], *locks, x[1], *y]))
+        record.write_bytes(
+            HEADER + b"".join([entry(0, "FORK", 1, 0x100), *locks[2:4], x[0], *locks, x[1], *y]))
         for most in (100_000, 3_000):
-            words = [recorder.BUILT / "shb-std", "--list", "--only", "/dev/stdin", "--page", page, "--uses", uses, "-n", most, record]
+            words = [recorder.BUILT / "shb-std", "--list", "--only", "/dev/stdin", "--page", page, "--uses",
+                     uses, "-n", most, record]
             recorder.must(recorder.call(*words, input=b"4 22005 0x5000\n22006 22007 0x5008\n"))
             there = {int(number) for number in re.findall(r"(?m)^event\t\d+\t(\d+)$", uses.read_text())}
             self.assertLessEqual({4, 22_005, 22_006, 22_007}, there, most)

@@ -1,4 +1,5 @@
-"""The lines stand in the order of the accesses: each value read is that of the last write before it in the trace."""
+"""The lines stand in the order of the accesses: each value read is that of the last write before it
+in the trace."""
 
 import re
 import sys
@@ -51,7 +52,8 @@ def reads(trace, output, accesses=accesses):
 
 
 def steps(text):
-    """The accesses of x in a trace of `shb-std -a`. An atomic store is an acq, a read and a rel: the acq counts."""
+    """The accesses of x in a trace of `shb-std -a`. An atomic store is an acq, a read and a rel:
+    the acq counts."""
     storing = set()
     for name, operation, version in re.findall(r"^T(\d+)\.work\|(w|r|acq|rel)\(x(@\d+)?\)\|", text, re.M):
         thread = int(name) - 1
@@ -96,13 +98,15 @@ class Order(recorder.Case):
         """No other thread comes between the two hooks of a copy."""
         for seed, slice in ((1, 200), (2, 7), (3, 1)):
             text, printed = self.record("copies.c", "-O0", seed, slice)
-            trace = [(int(name) - 1, kind) for name, kind in re.findall(r"^T(\d+)\.work\|(w|r)\(shared\[1\]\[3\]\)", text, re.M)]
+            trace = [(int(name) - 1, kind)
+                     for name, kind in re.findall(r"^T(\d+)\.work\|(w|r)\(shared\[1\]\[3\]\)", text, re.M)]
             pairs = list(reads(trace, printed, copies))
             self.assertEqual(len(pairs), 4 * 2000)
             self.assertEqual([pair for pair in pairs if pair[0] != pair[1]], [])
 
     def test_threads_change_places_after_reads_and_after_writes(self):
-        """In a loop of count++, of which a read follows each write. How often they change hangs on the machine's load."""
+        """In a loop of count++, of which a read follows each write. How often they change hangs on
+        the machine's load."""
         last, lengths, seed = [], [], 0
         while (len(last) < 100 or not lengths) and seed < 30:
             text, _ = self.record("loop.c", "-O1", seed)
@@ -114,11 +118,13 @@ class Order(recorder.Case):
         self.assertGreater(len(last), 50)
         for kind in "rw":
             self.assertGreater(last.count(kind), len(last) / 5)
-        odd = sum(length % 2 for length in lengths)  # an even run loses no update of its own, or begins and ends inside count++
+        # an even run loses no update of its own, or begins and ends inside count++
+        odd = sum(length % 2 for length in lengths)
         self.assertTrue(len(lengths) / 5 < odd < len(lengths) * 4 / 5, lengths)
 
     def test_each_thread_is_forked_once_and_before_it_starts(self):
-        """Threads that fork may sleep in the system and lose the turn: each child has a number of its own all the same."""
+        """Threads that fork may sleep in the system and lose the turn: each child has a number of its own
+        all the same."""
         program, path = self.folder / "forks", self.folder / "forks.rec"
         hasty = recorder.build_recorder(self.folder, "CFLAGS=-O2 -DHASTY")
         recorder.build(recorder.PROGRAMS / "forks.c", "-O2", program, hasty)

@@ -1,4 +1,5 @@
-"""Each process has its own record, none is lost without a word, and nothing crashes that doesn't crash by itself."""
+"""Each process has its own record, none is lost without a word, and nothing crashes that doesn't
+crash by itself."""
 
 import os
 import pathlib
@@ -10,7 +11,8 @@ import subprocess
 import recorder
 
 ARCHER = next(iter(sorted(pathlib.Path("/usr/lib").glob("llvm-*/lib/libarcher.so"))), None)
-UNSEEN = b"shb recorder: the program uses OpenMP's %s, of which not all is recorded: races may be false, or missed\n"
+UNSEEN = (b"shb recorder: the program uses OpenMP's %s, of which not all is recorded: races may be false, or "
+          b"missed\n")
 
 
 def marked(name, word="RACE"):
@@ -56,7 +58,8 @@ class Processes(recorder.Case):
         program = self.program("daemon.c")
         with subprocess.Popen([program], env=self.settings(), stdout=subprocess.PIPE) as running:
             self.assertEqual(running.stdout.read(), b"done\n")  # the daemon's own output
-        self.assertEqual(sorted(map(sorted, map(racing_lines, self.records()))), [[], sorted(marked("daemon.c"))])
+        self.assertEqual(sorted(map(sorted, map(racing_lines, self.records()))),
+                         [[], sorted(marked("daemon.c"))])
 
     def test_a_path_that_is_not_absolute(self):
         program = self.program("daemon.c")  # which changes its folder before it starts threads
@@ -88,8 +91,10 @@ class Processes(recorder.Case):
             if replaced is None:
                 self.assertEqual(said, b"")
             else:
-                self.assertRegex(said, rb"^shb recorder: in \S+/one.rec the record of another command is replaced "
-                                 rb"\(\S*" + replaced + rb"\); %p in the path gives each process a record of its own\n$")
+                self.assertRegex(said, rb"^shb recorder: in \S+/one.rec the record of another command is "
+                                       rb"replaced "
+                                 rb"\(\S*" + replaced + rb"\); %p in the path gives each process a record of "
+                                                        rb"its own\n$")
             self.assertEqual(command_of(self.folder / "one.rec"), [os.fsencode(str(word)) for word in words])
 
     def test_a_library_in_cxx_loaded_by_a_program_in_c(self):
@@ -125,7 +130,8 @@ class Processes(recorder.Case):
             self.skipTest("clang or its libarcher.so isn't installed")
         program = self.folder / "openmp"
         library = f"-L{recorder.BUILT}/lib"
-        recorder.must(recorder.call("clang", "-w", "-g", "-O1", "-fopenmp", "-fsanitize=thread", "-fno-sanitize-link-runtime",
+        recorder.must(recorder.call("clang", "-w", "-g", "-O1", "-fopenmp", "-fsanitize=thread",
+                                    "-fno-sanitize-link-runtime",
                                     recorder.PROGRAMS / "openmp.c", "-o", program, library, "-ltsan"))
         more = {"OMP_TOOL_LIBRARIES": str(ARCHER), "TSAN_OPTIONS": "ignore_noninstrumented_modules=1"}
         recorder.must(recorder.call(program, env={**self.settings(), **more}))

@@ -1,5 +1,6 @@
-"""Each program in programs/ is built twice and recorded under several seeds and slices. Over all runs exactly the
-lines marked RACE are places, and the filters lose none; the program ends as it does alone, with status 0."""
+"""Each program in programs/ is built twice and recorded under several seeds and slices. Over all runs exactly
+the lines marked RACE are places, and the filters lose none; the program ends as it does alone, with status
+0."""
 
 import re
 import unittest
@@ -52,10 +53,16 @@ class Program(recorder.Case):
 
 def load_tests(loader, tests, pattern):
     sources = sorted(path for path in recorder.PROGRAMS.iterdir() if path.suffix in (".c", ".cc"))
-    others = {"order.c", "deadlock.c", "long_run.c", "processes.c", "daemon.c", "plugin_host.c", "plugin.cc", "plugins.c", "plugin_one.c", "plugin_two.c", "openmp_taskloop.c", "openmp_unseen.c",
-              "ways_out.c", "status.c", "loop.c", "copies.c", "long_race.c", "calls.c", "contexts.c", "both_orders.c",
-              "calls_cxx.cc", "inlined.cc", "headers.cc", "filled.cc", "own_files.c", "own_limits.c", "versions.c", "news.cc", "no_proc.c", "many_in_turn.c", "sigev_thread.c",
-              "spin.c", "short_threads.c", "in_turn.c", "library_unchanged.c", "fibers.c", "thread_names.c", "members.c", "members.cc", "elements.c", "blocks.cc", "allocated.cc", "allocator.c", "replaced.cc", "pretended.c", "rights.c", "forms.cc", "locals.c", "waits.c", "starves.c", "unseen_threads.c", "crash.c", "private_memory.c", "rare.c", "asleep.c", "room.c"}
+    others = {"order.c", "deadlock.c", "long_run.c", "processes.c", "daemon.c", "plugin_host.c", "plugin.cc",
+              "plugins.c", "plugin_one.c", "plugin_two.c", "openmp_taskloop.c", "openmp_unseen.c",
+              "ways_out.c", "status.c", "loop.c", "copies.c", "long_race.c", "calls.c", "contexts.c",
+              "both_orders.c",
+              "calls_cxx.cc", "inlined.cc", "headers.cc", "filled.cc", "own_files.c", "own_limits.c",
+              "versions.c", "news.cc", "no_proc.c", "many_in_turn.c", "sigev_thread.c",
+              "spin.c", "short_threads.c", "in_turn.c", "library_unchanged.c", "fibers.c", "thread_names.c",
+              "members.c", "members.cc", "elements.c", "blocks.cc", "allocated.cc", "allocator.c",
+              "replaced.cc", "pretended.c", "rights.c", "forms.cc", "locals.c", "waits.c", "starves.c",
+              "unseen_threads.c", "crash.c", "private_memory.c", "rare.c", "asleep.c", "room.c"}
     others |= {"container_uses.cc", "vector_bits.cc", "own_members.cc", "heap_objects.c", "used.c", "used.cc"}
     suite = unittest.TestSuite()
     for source in sources:

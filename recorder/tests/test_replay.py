@@ -1,4 +1,5 @@
-"""A run again by the list of its turns: the same accesses in the same order, and a word where the list doesn't fit."""
+"""A run again by the list of its turns: the same accesses in the same order, and a word where the
+list doesn't fit."""
 
 import os
 import re
@@ -17,12 +18,14 @@ class Replays(recorder.Case):
     def program(self, name="rare.c", *words, folder="."):
         out = self.folder / folder / name.split(".")[0]
         out.parent.mkdir(exist_ok=True)
-        recorder.must(recorder.call("gcc", "-w", "-g", "-O1", "-fsanitize=thread", "-pthread", *words, recorder.PROGRAMS / name, "-o", out))
+        recorder.must(recorder.call("gcc", "-w", "-g", "-O1", "-fsanitize=thread", "-pthread", *words,
+                                    recorder.PROGRAMS / name, "-o", out))
         return out
 
     def settings(self, name, seed, **more):
         """With slices that the recorder draws."""
-        return recorder.settings(self.folder / f"{name}.rec", seed, recorder.OWN_SLICES, LD_LIBRARY_PATH=str(recorder.BUILT / "lib"), **more)
+        return recorder.settings(self.folder / f"{name}.rec", seed, recorder.OWN_SLICES,
+                                 LD_LIBRARY_PATH=str(recorder.BUILT / "lib"), **more)
 
     def run_it(self, name, seed, *words, replay=None, **more):
         """Runs a program; gives what the recorder said, and the list of turns."""
@@ -32,7 +35,8 @@ class Replays(recorder.Case):
         return ran.stderr.decode(), (self.folder / f"{name}.turns").read_bytes()[HEADER:]
 
     def record(self, *words):
-        ran = recorder.call(recorder.COMMAND, *words, cwd=self.folder, env={**os.environ, "SHB": str(recorder.SHB)})
+        ran = recorder.call(recorder.COMMAND, *words, cwd=self.folder,
+                            env={**os.environ, "SHB": str(recorder.SHB)})
         return ran.returncode, ran.stderr.decode()
 
     def test_a_found_race_is_found_again(self):
@@ -42,7 +46,8 @@ class Replays(recorder.Case):
         turns = re.search(AGAIN, said)[1]
         for folder in "found", "other":  # the first has the list, which stays
             status, said = self.record("--runs", "10", "--replay", turns, "-o", folder, program)
-            followed = re.findall(r"(?m)^shb-record: run \d+, process \d+ \(\S+\): all \d+ turns of the list were followed$", said)
+            followed = re.findall(r"(?m)^shb-record: run \d+, process \d+ \(\S+\): all \d+ turns of the list "
+                                  r"were followed$", said)
             found = re.findall(r"(?m)^shb-record: run \d+, .*; [1-9] places? with races$", said)
             self.assertEqual((status, len(followed), len(found)), (66, 10, 10), said)
         page = next((self.folder / "other").glob("run*.html")).read_text()
@@ -71,17 +76,21 @@ class Replays(recorder.Case):
         """Where a thread is started, and where it begins; and again before its next step."""
         program, runs = self.program("asleep.c"), {}
         for seed in range(1, 5):
-            for name, how in ("first", {"SLEEPS": "1"}), ("second", {"SHB_REPLAY": str(self.folder / "first.turns")}):
-                ran = recorder.must(recorder.call(program, env={**self.settings(name, seed, **how), "SHB_SLICE": "5"}))
+            for name, how in ("first", {"SLEEPS": "1"}), ("second",
+                                                          {"SHB_REPLAY": str(self.folder / "first.turns")}):
+                ran = recorder.must(recorder.call(program,
+                                                  env={**self.settings(name, seed, **how), "SHB_SLICE": "5"}))
                 runs[name] = ran.stdout, ran.stderr, (self.folder / f"{name}.turns").read_bytes()[HEADER:]
             self.assertEqual(runs["first"], runs["second"], f"seed {seed}")
 
     def test_a_thread_that_sleeps_for_room(self):
         """In a hook, before its record; there it keeps its turn."""
         program, slow = self.program("room.c"), self.folder / "slow.so"
-        recorder.must(recorder.call("gcc", "-O1", "-fno-builtin", "-fPIC", "-shared", recorder.HERE / "refuse_space.c", "-o", slow))
+        recorder.must(recorder.call("gcc", "-O1", "-fno-builtin", "-fPIC", "-shared",
+                                    recorder.HERE / "refuse_space.c", "-o", slow))
         seen = set()
-        for how in {"LD_PRELOAD": str(slow), "SLOW_SPACE": "300000"}, {"SHB_REPLAY": str(self.folder / "first.turns")}:
+        for how in {"LD_PRELOAD": str(slow), "SLOW_SPACE": "300000"}, {
+                "SHB_REPLAY": str(self.folder / "first.turns")}:
             name = "again" if seen else "first"
             ran = recorder.must(recorder.call(program, env=self.settings(name, 1, SHB_CELLS="0", **how)))
             seen.add((ran.stdout, ran.stderr, (self.folder / f"{name}.turns").read_bytes()[HEADER:]))
@@ -89,22 +98,26 @@ class Replays(recorder.Case):
 
     def test_a_program_that_changed(self):
         _, turns = self.run_it("first", 5, self.program())
-        said, _ = self.run_it("again", 5, self.program("rare.c", "-DLONGER", folder="changed"), replay="first")
-        left = re.fullmatch(r"shb recorder: the replay is left after (\d+) of (\d+) turns, for [a-z ]+\n", said)
+        said, _ = self.run_it("again", 5, self.program("rare.c", "-DLONGER", folder="changed"),
+                              replay="first")
+        left = re.fullmatch(r"shb recorder: the replay is left after (\d+) of (\d+) turns, for [a-z ]+\n",
+                            said)
         self.assertTrue(left, said)
         self.assertLess(int(left[1]), int(left[2]))
         self.assertLessEqual(int(left[2]), len(turns) / 8)
         recorder.must(recorder.convert(self.folder / "again.rec"))  # it is whole
 
     def test_a_thread_that_is_due_waits_for_input(self):
-        """It had its line at once when the list was written, and the other thread was still at work then: else nobody waits for it."""
+        """It had its line at once when the list was written, and the other thread was still at work then:
+        else nobody waits for it."""
         program = self.program()
         runs = (self.run_it("first", seed, program, "input")[1] for seed in range(5, 105))
         turns = next(turns for turns in runs if len(turns) > 8 * MANY_TURNS)
         said, again = self.run_it("again", 6, program, "input", replay="first")
         self.assertEqual((said, again), ("", turns))
         how = self.settings("late", 6, SHB_REPLAY=str(self.folder / "first.turns"))
-        with subprocess.Popen([program, "input"], env=how, stdin=subprocess.PIPE, stderr=subprocess.PIPE) as running:
+        with subprocess.Popen([program, "input"], env=how, stdin=subprocess.PIPE,
+                              stderr=subprocess.PIPE) as running:
             limit = threading.Timer(SECONDS, running.kill)
             limit.start()
             self.assertIn(b"the replay is left after ", running.stderr.readline())
@@ -127,10 +140,12 @@ class Replays(recorder.Case):
         self.assertEqual(self.record("--replay", self.folder / "first.turns", program)[0] in (0, 66), True)
         changed = bytearray(good)
         changed[HEADER] ^= 1
-        for content in b"", b"text\n", good[:HEADER - 1], b"x" + good[1:], good[:-8], good[:-3], bytes(changed):
+        for content in b"", b"text\n", good[:HEADER - 1], b"x" + good[1:], good[:-8], good[:-3], bytes(
+                changed):
             path.write_bytes(content)
             status, said = self.record("--replay", path, "-o", "refused", program)
-            self.assertEqual((status, len(said.splitlines()), (self.folder / "refused").exists()), (125, 1, False), said)
+            self.assertEqual((status, len(said.splitlines()), (self.folder / "refused").exists()),
+                             (125, 1, False), said)
             self.assertRegex(said, "is no list of turns|was cut or changed")
         for other in self.folder / "none.turns", self.folder:
             status, said = self.record("--replay", other, program)
@@ -144,12 +159,15 @@ class Replays(recorder.Case):
         self.assertRegex(content, rb"\Ashb-turns \d+\n")
         path.write_bytes(b"shb-turns 2\n" + content.partition(b"\n")[2])
         said, _ = self.run_it("again", 5, program, replay="old")
-        self.assertEqual(said, f"shb recorder: {path} is not followed: another version of the recorder wrote it\n")
+        self.assertEqual(said, f"shb recorder: {path} is not followed: another version of the recorder wrote "
+                               "it\n")
         status, said = self.record("--replay", path, "-o", "refused", program)
-        self.assertEqual((status, said), (125, f"shb-record: {path} is not followed: another version of the recorder wrote it\n"))
+        self.assertEqual((status, said), (125, f"shb-record: {path} is not followed: another version of the "
+                                               "recorder wrote it\n"))
 
     def test_a_list_of_another_program(self):
         self.run_it("first", 5, self.program("prodcons.c"))
         status, said = self.record("--replay", self.folder / "first.turns", self.program())
         self.assertEqual(status in (125, 66), True)
-        self.assertRegex(said, r"first.turns belongs to `\S+/prodcons`, and no recorded process was that: nothing was replayed\n")
+        self.assertRegex(said, r"first.turns belongs to `\S+/prodcons`, and no recorded process was that: "
+                               r"nothing was replayed\n")

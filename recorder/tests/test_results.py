@@ -7,8 +7,21 @@ import shutil
 
 import recorder
 
-RACE = "#include <pthread.h>\n#include <unistd.h>\nstatic long hits;\nstatic void *work(void *u) {\n    hits++;\n    return u;\n}\nint main(void) {\n    pthread_t a, b;\n" \
-       "    pthread_create(&a, 0, work, 0);\n    pthread_create(&b, 0, work, 0);\n    pthread_join(a, 0);\n    return pthread_join(b, 0);\n}\n"
+RACE = """#include <pthread.h>
+#include <unistd.h>
+static long hits;
+static void *work(void *u) {
+    hits++;
+    return u;
+}
+int main(void) {
+    pthread_t a, b;
+    pthread_create(&a, 0, work, 0);
+    pthread_create(&b, 0, work, 0);
+    pthread_join(a, 0);
+    return pthread_join(b, 0);
+}
+"""
 # Both processes have the race of line 6 with itself; the child has line 7, too.
 SHARED = """#include <pthread.h>
 #include <sys/wait.h>
@@ -64,10 +77,24 @@ int main(void) {
 }
 """
 # Each use but one holds the lock; that one is ordered by the join.
-ALMOST_LOCKED = "#include <pthread.h>\nstatic long hits;\nstatic pthread_mutex_t door = PTHREAD_MUTEX_INITIALIZER;\n" \
-                "static void *work(void *u) {\n    pthread_mutex_lock(&door);\n" + "    hits++;\n" * 6 + "    pthread_mutex_unlock(&door);\n    return u;\n}\n" \
-                "int main(void) {\n    pthread_t a, b;\n    pthread_create(&a, 0, work, 0);\n    pthread_create(&b, 0, work, 0);\n" \
-                "    pthread_join(a, 0);\n    pthread_join(b, 0);\n    hits = 0;\n    return 0;\n}\n"
+ALMOST_LOCKED = """#include <pthread.h>
+static long hits;
+static pthread_mutex_t door = PTHREAD_MUTEX_INITIALIZER;
+static void *work(void *u) {
+    pthread_mutex_lock(&door);
+""" + "    hits++;\n" * 6 + """    pthread_mutex_unlock(&door);
+    return u;
+}
+int main(void) {
+    pthread_t a, b;
+    pthread_create(&a, 0, work, 0);
+    pthread_create(&b, 0, work, 0);
+    pthread_join(a, 0);
+    pthread_join(b, 0);
+    hits = 0;
+    return 0;
+}
+"""
 
 
 class Results(recorder.Case):
@@ -75,7 +102,8 @@ class Results(recorder.Case):
         source = self.folder / folder / f"{name}.c"
         source.parent.mkdir(parents=True, exist_ok=True)
         source.write_text(text)
-        recorder.must(recorder.call("gcc", "-w", "-g", "-O1", "-fsanitize=thread", "-pthread", source, "-o", self.folder / name))
+        recorder.must(recorder.call("gcc", "-w", "-g", "-O1", "-fsanitize=thread", "-pthread", source, "-o",
+                                    self.folder / name))
         return self.folder / name
 
     def record(self, *words, folder=None):
@@ -95,7 +123,8 @@ class Results(recorder.Case):
                 self.assertNotIn("no race matched", said)
 
     def test_a_log(self):
-        program = self.build(RACE.replace("return pthread_join(b, 0);", 'write(2, "own", 3); return pthread_join(b, 0);'))
+        program = self.build(RACE.replace("return pthread_join(b, 0);", 'write(2, "own", 3); return '
+                                          'pthread_join(b, 0);'))
         log = self.folder / "log"
         self.assertEqual(self.record("--log", log, program), (66, "own"))
         self.assertIn("\n1. hits: app.c:5 writes without a lock (1 place)\n", log.read_text())
@@ -109,7 +138,8 @@ class Results(recorder.Case):
 
     def test_an_index_has_a_name_that_stays(self):
         self.record("-o", "out", self.build(RACE))
-        text, [page] = (self.folder / "out" / "index.html").read_text(), (self.folder / "out").glob("run*.html")
+        text, [page] = ((self.folder / "out" / "index.html").read_text(),
+                        (self.folder / "out").glob("run*.html"))
         self.assertIn(f'<a href="{page.name}">run 1, process ', text)
         self.assertIn("<li>hits: app.c:5 writes without a lock</li>", text)
         self.assertIn("prefers-color-scheme: dark", text)   # it has the page's style
@@ -119,9 +149,13 @@ class Results(recorder.Case):
         document = json.loads((self.folder / "out" / "places.json").read_text())
         parent, child = sorted(document["groups"], key=lambda group: len(group["pairs"]))
         six, seven = "app.c:6", "app.c:7"
-        self.assertEqual([sorted(map(sorted, group["pairs"])) for group in (parent, child)], [[[six, six]], [[six, six], [six, seven], [seven, seven]]])
-        self.assertEqual({tuple(access["in_trace"] for access in place["accesses"]): set(place["processes"]) for place in document["places"]},
-                         {(six, six): {parent["process"], child["process"]}, (six, seven): {child["process"]}, (seven, seven): {child["process"]}})
+        self.assertEqual([sorted(map(sorted, group["pairs"])) for group in (parent, child)],
+                         [[[six, six]], [[six, six], [six, seven], [seven, seven]]])
+        self.assertEqual(
+            {tuple(access["in_trace"] for access in place["accesses"]): set(place["processes"])
+             for place in document["places"]},
+                         {(six, six): {parent["process"], child["process"]}, (six, seven): {child["process"]},
+                          (seven, seven): {child["process"]}})
 
     def test_a_place_whose_names_and_paths_have_different_orders(self):
         alpha = self.folder / "b" / "alpha.c"
@@ -129,9 +163,11 @@ class Results(recorder.Case):
         alpha.write_text("extern long hits;\nvoid *work(void *u) { hits++; return u; }\n")
         zoo = self.folder / "a" / "zoo.c"
         zoo.parent.mkdir()
-        zoo.write_text("#include <pthread.h>\nlong hits;\nvoid *work(void *);\nint main(void) {\n    pthread_t a;\n    pthread_create(&a, 0, work, 0);\n"
-                       "    hits = 1;\n    return pthread_join(a, 0);\n}\n")
-        recorder.must(recorder.call("gcc", "-w", "-g", "-O1", "-fsanitize=thread", "-pthread", alpha, zoo, "-o", self.folder / "app"))
+        zoo.write_text("#include <pthread.h>\nlong hits;\nvoid *work(void *);\nint main(void) {\n    "
+                       "pthread_t a;\n    pthread_create(&a, 0, work, 0);\n    hits = 1;\n    return "
+                       "pthread_join(a, 0);\n}\n")
+        recorder.must(recorder.call("gcc", "-w", "-g", "-O1", "-fsanitize=thread", "-pthread", alpha, zoo,
+                                    "-o", self.folder / "app"))
         self.assertEqual(self.record("-o", "out", self.folder / "app")[0], 66)
         [place] = json.loads((self.folder / "out" / "places.json").read_text())["places"]
         self.assertEqual([access["in_trace"] for access in place["accesses"]], ["alpha.c:2", "zoo.c:7"])
@@ -139,13 +175,15 @@ class Results(recorder.Case):
 
     def test_a_stale_line_has_its_own_status_and_last_line(self):
         program, known = self.build(RACE), self.folder / "known"
-        for text, words, wanted in (("a.c:1\ta.c:1\t*\n*\t*\thits\n", [], 0), ("a.c:1\ta.c:1\t*\n*\t*\thits\n", ["--fail-on-stale"], 67),
-                                    ("a.c:1\ta.c:1\t*\n", ["--fail-on-stale"], 66), ("*\t*\thits\n", ["--fail-on-stale"], 0)):
+        for text, words, wanted in (("a.c:1\ta.c:1\t*\n*\t*\thits\n", [], 0),
+                                    ("a.c:1\ta.c:1\t*\n*\t*\thits\n", ["--fail-on-stale"], 67),
+                                    ("a.c:1\ta.c:1\t*\n", ["--fail-on-stale"], 66),
+                                    ("*\t*\thits\n", ["--fail-on-stale"], 0)):
             known.write_text(text)
             status, said = self.record("--known", known, *words, program)
             self.assertEqual(status, wanted, said)
-            self.assertEqual(said.splitlines()[-1] == f"shb-record: status 67: 1 line of {known} matched no race of this run; --runs N with a greater N may "
-                             "find one", wanted == 67, said)
+            self.assertEqual(said.splitlines()[-1] == f"shb-record: status 67: 1 line of {known} matched no "
+                             "race of this run; --runs N with a greater N may find one", wanted == 67, said)
 
     def test_code_review_has_paths_calls_and_messages_that_stay(self):
         program = self.build(RACE, folder="source/lib")
@@ -155,22 +193,30 @@ class Results(recorder.Case):
             self.record("-o", self.folder / name, program, folder=folder)
             [run] = json.loads((self.folder / name / "places.sarif").read_text())["runs"]
             [result] = run["results"]
-            self.assertEqual(result["locations"][0]["physicalLocation"]["artifactLocation"], {"uri": "source/lib/app.c", "uriBaseId": "SRCROOT"})
-            self.assertEqual(result["message"]["text"], "Data race on `hits` between app.c:5 and [app.c:5](1). app.c:5 writes without a "
-                             "lock. Remedy: make it atomic if it is a flag or a counter; else hold one lock at app.c:5.")
+            self.assertEqual(result["locations"][0]["physicalLocation"]["artifactLocation"],
+                             {"uri": "source/lib/app.c", "uriBaseId": "SRCROOT"})
+            self.assertEqual(result["message"]["text"],
+                             "Data race on `hits` between app.c:5 and [app.c:5](1). app.c:5 writes without a "
+                             "lock. Remedy: make it atomic if it is a flag or a counter; else hold one lock "
+                             "at app.c:5.")
             flows = result["codeFlows"][0]["threadFlows"]
-            self.assertEqual([step["location"]["physicalLocation"]["region"]["startLine"] for flow in flows for step in flow["locations"]], [5, 5])
+            self.assertEqual(
+                [step["location"]["physicalLocation"]["region"]["startLine"] for flow in flows
+                 for step in flow["locations"]], [5, 5])
             self.assertTrue(run["tool"]["driver"]["version"])
-            texts.append(re.sub(r"process \d+", "", json.dumps([result["message"], result["partialFingerprints"]])))
+            texts.append(re.sub(r"process \d+", "",
+                                json.dumps([result["message"], result["partialFingerprints"]])))
         self.assertEqual(*texts)
 
     def test_code_review_shows_an_alert_at_the_line_to_mend(self):
         program = self.build((recorder.SOURCES.parent / "examples" / "account.c").read_text())
         self.assertEqual(self.record("-o", "out", program)[0], 66)
         [result] = json.loads((self.folder / "out" / "places.sarif").read_text())["runs"][0]["results"]
-        lines = [one[0]["physicalLocation"]["region"]["startLine"] for one in (result["locations"], result["relatedLocations"])]
+        lines = [one[0]["physicalLocation"]["region"]["startLine"]
+                 for one in (result["locations"], result["relatedLocations"])]
         self.assertEqual(lines, [8, 10])
-        self.assertIn("between app.c:8 and [app.c:10](1). app.c:8 reads without door", result["message"]["text"])
+        self.assertIn("between app.c:8 and [app.c:10](1). app.c:8 reads without door",
+                      result["message"]["text"])
         [place] = json.loads((self.folder / "out" / "places.json").read_text())["places"]
         self.assertEqual((place["blamed"]["in_trace"], place["blamed"]["functions"]), ("app.c:8", ["pay"]))
 
@@ -180,11 +226,14 @@ class Results(recorder.Case):
         program = self.build(source.read_text())
         self.assertEqual(self.record("--until-found", "10", "-o", "out", program)[0], 66)
         [result] = json.loads((self.folder / "out" / "places.sarif").read_text())["runs"][0]["results"]
-        lines = [one["physicalLocation"]["region"]["startLine"] for one in (*result["locations"], *result["relatedLocations"])]
+        lines = [one["physicalLocation"]["region"]["startLine"]
+                 for one in (*result["locations"], *result["relatedLocations"])]
         self.assertEqual(lines, [8, 12, 7])
-        self.assertIn("between [app.c:12](1) and [app.c:7](2). app.c:8 writes ready without release", result["message"]["text"])
+        self.assertIn("between [app.c:12](1) and [app.c:7](2). app.c:8 writes ready without release",
+                      result["message"]["text"])
         [place] = json.loads((self.folder / "out" / "places.json").read_text())["places"]
-        self.assertEqual((place["blamed"]["in_trace"], os.path.basename(place["blamed"]["file"])), ("app.c:8", "app.c"))
+        self.assertEqual((place["blamed"]["in_trace"], os.path.basename(place["blamed"]["file"])),
+                         ("app.c:8", "app.c"))
 
     def test_what_did_not_race_is_not_said(self):
         """There are no suspicions: no word, no file, no option, and nothing of them in the sources."""
@@ -193,11 +242,14 @@ class Results(recorder.Case):
         document = json.loads((self.folder / "out" / "places.json").read_text())
         self.assertEqual((status, document["places"], document["groups"]), (0, [], []))
         files = {path.name: path.read_text(errors="replace") for path in (self.folder / "out").iterdir()}
-        self.assertEqual([name for name, text in files.items() if "hits" in text + name or "uspici" in text + name], [])
+        self.assertEqual(
+            [name for name, text in files.items() if "hits" in text + name or "uspici" in text + name], [])
         self.assertNotRegex(said, "hits|uspici")
         status, said = self.record("--fail-on-suspicion", program)
         self.assertEqual((status, "unrecognized arguments: --fail-on-suspicion" in said), (125, True))
-        paths = [path for folder in ("recorder", "python") for path in (recorder.HERE.parents[1] / folder).rglob("*")]
-        sources = [path for path in paths if path.suffix in (".c", ".h", ".py", ".js") and "tests" not in path.parts]
+        paths = [path for folder in ("recorder", "python")
+                 for path in (recorder.HERE.parents[1] / folder).rglob("*")]
+        sources = [path for path in paths if path.suffix in (".c", ".h", ".py", ".js")
+                   and "tests" not in path.parts]
         self.assertGreater(len(sources), 100)
         self.assertEqual([path for path in sources if b"uspici" in path.read_bytes()], [])

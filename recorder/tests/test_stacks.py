@@ -54,7 +54,24 @@ def name(frame):
 
 
 def places(stacks, events):
-    return [" ".join(frame.location.decode() for frame in stacks.of_event(event)) for event in range(1, events + 1)]
+    return [" ".join(frame.location.decode() for frame in stacks.of_event(event))
+            for event in range(1, events + 1)]
+
+
+COLD = """#include <pthread.h>
+int shared;
+void __attribute__((noinline)) thrower(long n) { if (n) throw 1; }
+void __attribute__((noinline)) catcher(long n) {
+    try { thrower(n); } catch (int) { shared++; }
+}
+void *run(void *p) { catcher((long)&p); return p; }
+int main() {
+    pthread_t t;
+    pthread_create(&t, 0, run, 0);
+    shared++;
+    return pthread_join(t, 0);
+}
+"""
 
 
 class MadeByHand(recorder.Case):
@@ -80,19 +97,24 @@ class MadeByHand(recorder.Case):
         for entries in range(len(CANNED)):
             self.record().write_bytes(HEADER + b"".join(record for record, _ in CANNED[:entries]))
             path = self.folder / "app.stacks"
-            events = len(recorder.must(recorder.convert(self.record(), "--stacks", path, "-a")).stdout.splitlines())
+            events = len(
+                recorder.must(recorder.convert(self.record(), "--stacks", path, "-a")).stdout.splitlines())
             found = Stacks(path, events)
             self.assertEqual(places(found, events), wanted[:events])
 
     def test_an_access_that_is_late_has_its_own_context(self):
-        entries = [entry(0, "FORK", 1, 0x5000), entry(0, "FRAME", 0x5000, 0x100, 0), entry(0, "FRAME", 0x5100, 0x5010, 1),
-                   entry(1, "WRITE", BLOCK, 0x5120, 8), entry(0, "FRAME", 0x5200, 0x5020, 1), entry(0, "WRITE", BLOCK, 0x5210, 8),
-                   late(5, 1, plain(0, "READ", BLOCK, 0x5110, 63), 2), late(4, 1, plain(0, "READ", BLOCK, 0x5030, 63), 1),
+        entries = [entry(0, "FORK", 1, 0x5000), entry(0, "FRAME", 0x5000, 0x100, 0),
+                   entry(0, "FRAME", 0x5100, 0x5010, 1),
+                   entry(1, "WRITE", BLOCK, 0x5120, 8), entry(0, "FRAME", 0x5200, 0x5020, 1),
+                   entry(0, "WRITE", BLOCK, 0x5210, 8),
+                   late(5, 1, plain(0, "READ", BLOCK, 0x5110, 63), 2),
+                   late(4, 1, plain(0, "READ", BLOCK, 0x5030, 63), 1),
                    entry(0, "WRITE", BLOCK, 0x5220, 8)]
         path = self.folder / "app.stacks"
         self.record().write_bytes(HEADER + b"".join(entries))
         events = len(recorder.must(recorder.convert(self.record(), "--stacks", path)).stdout.splitlines())
-        self.assertEqual(places(Stacks(path, events), events), ["0x5000", "0x5120", "0x5030", "0x5110 0x5010", "0x5210 0x5020", "0x5220 0x5020"])
+        self.assertEqual(places(Stacks(path, events), events),
+                         ["0x5000", "0x5120", "0x5030", "0x5110 0x5010", "0x5210 0x5020", "0x5220 0x5020"])
 
     def test_the_trace_is_the_same(self):
         _, trace = self.stacks()
@@ -106,7 +128,8 @@ class Texts(recorder.Case):
         super().setUp()
         self.sources = recorder.two_of_one_name(self.folder / "sources")
         self.program, self.path = self.folder / "program", self.folder / "app.rec"
-        recorder.must(recorder.call("gcc", "-w", "-g", "-O1", "-fsanitize=thread", "-pthread", f"-B{recorder.BUILT}/lib/", *self.sources, "-o", self.program))
+        recorder.must(recorder.call("gcc", "-w", "-g", "-O1", "-fsanitize=thread", "-pthread",
+                                    f"-B{recorder.BUILT}/lib/", *self.sources, "-o", self.program))
         recorder.call(self.program, env=recorder.settings(self.path))
 
     def sums(self):
@@ -120,7 +143,8 @@ class Texts(recorder.Case):
 
     def test_each_line_of_a_frame(self):
         found = self.sums()
-        self.assertEqual({place for place in found if not place.startswith("main.c:")}, {"a/util.c:3", "b/util.c:3"})
+        self.assertEqual({place for place in found if not place.startswith("main.c:")},
+                         {"a/util.c:3", "b/util.c:3"})
         self.assertIn("main.c:8", found)
         self.assertNotEqual(found["a/util.c:3"], found["b/util.c:3"])
         self.assertEqual(self.sums(), found)
@@ -140,7 +164,9 @@ class Texts(recorder.Case):
     def test_a_file_that_cannot_be_read(self):
         """A FIFO, a folder, a shorter file, none."""
         source = self.sources[1]
-        for make in (lambda: source.write_text("\n\n"), lambda: source.write_text(""), lambda: (source.unlink(), os.mkfifo(source)),
+        for make in (
+                lambda: source.write_text("\n\n"), lambda: source.write_text(""), lambda: (
+                    source.unlink(), os.mkfifo(source)),
                      lambda: (source.unlink(), source.mkdir()), source.rmdir):
             make()
             found = self.sums()
@@ -149,7 +175,8 @@ class Texts(recorder.Case):
 
 class Programs(recorder.Case):
     def stacks_of(self, source, option):
-        """By line: the functions of each stack that an event there has, the innermost first, those of the system left out."""
+        """By line: the functions of each stack that an event there has, the innermost first, those of the
+        system left out."""
         program, found = self.folder / "program", {}
         recorder.build(source, option, program)
         for seed in (1, 2):
@@ -171,7 +198,8 @@ class Programs(recorder.Case):
             found = self.stacks_of(source, option)
             for place, stacks in wanted.items():
                 with self.subTest(option=option, place=place):
-                    met = {(stack, way) for stack in found.get(place, ()) for way in stacks if f"{stack} ".startswith(f"{way} ")}
+                    met = {(stack, way) for stack in found.get(place, ())
+                           for way in stacks if f"{stack} ".startswith(f"{way} ")}
                     others = found.get(place, set()) - {stack for stack, _ in met}
                     self.assertEqual(({way for _, way in met}, others), (stacks, set()))
 
@@ -204,7 +232,8 @@ class Programs(recorder.Case):
         for setting in ("1", "0"):
             recorder.must(recorder.call(program, env=recorder.settings(record, SHB_STACKS=setting)))
             answer = recorder.must(recorder.convert(record, "--stacks", path))
-            said.append(b"no call stacks are known: the program was recorded with SHB_STACKS=0" in answer.stderr)
+            said.append(
+                b"no call stacks are known: the program was recorded with SHB_STACKS=0" in answer.stderr)
         self.assertEqual(said, [False, True])
         lines = answer.stdout.decode().splitlines()
         self.assertEqual(places(Stacks(path, len(lines)), len(lines)), [line.split("|")[2] for line in lines])
@@ -218,23 +247,25 @@ class Programs(recorder.Case):
 
     def test_an_inlined_function_has_its_own_name(self):
         source, path = recorder.PROGRAMS / "inlined.cc", self.folder / "app.stacks"
-        numbers = {line.partition("// ")[2]: number for number, line in enumerate(source.read_text().splitlines(), 1)}
+        numbers = {line.partition("// ")[2]: number
+                   for number, line in enumerate(source.read_text().splitlines(), 1)}
         for option in ("-O1", "-O2"):
-            lines = recorder.must(recorder.convert(self.recorded(source, option), "--stacks", path)).stdout.decode().splitlines()
-            looked = next(event for event, line in enumerate(lines, 1) if line.endswith(f"|inlined.cc:{numbers['LOOK']}"))
+            lines = recorder.must(recorder.convert(self.recorded(source, option), "--stacks",
+                                                   path)).stdout.decode().splitlines()
+            looked = next(event for event, line in enumerate(lines, 1)
+                          if line.endswith(f"|inlined.cc:{numbers['LOOK']}"))
             frames = Stacks(path, len(lines)).of_event(looked)[:2]
             self.assertEqual([name(frame) for frame in frames], ["look", "lambda"])
-            self.assertEqual([frame.location.decode() for frame in frames], [f"inlined.cc:{numbers[it]}" for it in ("LOOK", "LAMBDA")])
+            self.assertEqual([frame.location.decode() for frame in frames],
+                             [f"inlined.cc:{numbers[it]}" for it in ("LOOK", "LAMBDA")])
 
     def test_a_part_of_a_function_that_stands_apart(self):
         """Compilers put what handles exceptions elsewhere, as "catcher(long) [clone .cold]"."""
         source, path = self.folder / "cold.cc", self.folder / "app.stacks"
-        source.write_text("#include <pthread.h>\nint shared;\nvoid __attribute__((noinline)) thrower(long n) { if (n) throw 1; }\n"
-                          "void __attribute__((noinline)) catcher(long n) {\n    try { thrower(n); } catch (int) { shared++; }\n}\n"
-                          "void *run(void *p) { catcher((long)&p); return p; }\n"
-                          "int main() {\n    pthread_t t;\n    pthread_create(&t, 0, run, 0);\n    shared++;\n    return pthread_join(t, 0);\n}\n")
+        source.write_text(COLD)
         record = self.recorded(source, "-O2")
-        self.assertIn(b"catcher(long) [clone .cold]", recorder.must(recorder.call("nm", "-C", self.folder / "program")).stdout)
+        self.assertIn(b"catcher(long) [clone .cold]",
+                      recorder.must(recorder.call("nm", "-C", self.folder / "program")).stdout)
         recorder.must(recorder.convert(record, "--stacks", path))
         self.assertIn("frame catcher(long)\tcold.cc:5\n", path.read_text(errors="replace"))
 
@@ -246,7 +277,8 @@ class Programs(recorder.Case):
 
     def asked(self, source):
         """The modules that are read for the stacks of a program."""
-        record, log, folder = self.recorded(recorder.PROGRAMS / source, "-O1"), self.folder / "asked", self.folder / "tools"
+        record, log, folder = (self.recorded(recorder.PROGRAMS / source, "-O1"), self.folder / "asked",
+                               self.folder / "tools")
         folder.mkdir(exist_ok=True)
         shutil.copy(recorder.BUILT / "shb-std", folder)
         reader = folder / "module-reader"
@@ -262,11 +294,13 @@ class Programs(recorder.Case):
         self.assertIn("libc.so.6", self.asked("calls.c"))
 
     def test_code_of_headers_is_told_by_the_programs_own_lines(self):
-        source, program, record = recorder.PROGRAMS / "headers.cc", self.folder / "program", self.folder / "app.rec"
+        source, program, record = (recorder.PROGRAMS / "headers.cc", self.folder / "program",
+                                   self.folder / "app.rec")
         lines = source.read_text().splitlines()
 
         def marked(mark):
-            return {f"headers.cc:{number}" for number, line in enumerate(lines, 1) if line.endswith(f"// {mark}")}
+            return {f"headers.cc:{number}" for number, line in enumerate(lines, 1)
+                    if line.endswith(f"// {mark}")}
 
         for option in ("-O0", "-O1", "-O2"):
             recorder.build(source, option, program)
@@ -275,25 +309,32 @@ class Programs(recorder.Case):
             for allocated, used in (("NEW", "BILL"), ("BLOCK", "FIRST")):
                 [block] = marked(allocated)
                 with self.subTest(option=option, block=allocated):
-                    self.assertEqual(set(re.findall(rf"(?m)^.*\|w\({block}#\d+.*\)\|(.*)$", trace)), marked(used))
+                    self.assertEqual(set(re.findall(rf"(?m)^.*\|w\({block}#\d+.*\)\|(.*)$", trace)),
+                                     marked(used))
 
     def test_each_call_of_a_function_of_a_header_in_c_is_a_place(self):
         """Also where three of them are in each other, and whatever the functions are in that call them."""
-        source, program, record = recorder.PROGRAMS / "pretended.c", self.folder / "program", self.folder / "app.rec"
+        source, program, record = (recorder.PROGRAMS / "pretended.c", self.folder / "program",
+                                   self.folder / "app.rec")
         lines = source.read_text().splitlines()
-        [write] = [f"pretended.c:{number}" for number, line in enumerate(lines, 1) if line.endswith("// WRITE")]
+        [write] = [f"pretended.c:{number}" for number, line in enumerate(lines, 1)
+                   if line.endswith("// WRITE")]
         reads = [f"pretended.c:{number}" for number, line in enumerate(lines, 1) if line.endswith("// READ")]
         for option in ("-O0", "-O2"):
             recorder.build(source, option, program)
             recorder.must(recorder.call(program, env=recorder.settings(record)))
-            self.assertEqual(recorder.places(recorder.must(recorder.convert(record)).stdout), {tuple(sorted((read, write))) for read in reads}, option)
+            self.assertEqual(recorder.places(recorder.must(recorder.convert(record)).stdout),
+                             {tuple(sorted((read, write))) for read in reads}, option)
 
     def test_each_call_of_a_function_of_a_header_is_a_place(self):
-        source, program, record = recorder.PROGRAMS / "filled.cc", self.folder / "program", self.folder / "app.rec"
-        lines = [f"filled.cc:{number}" for number, line in enumerate(source.read_text().splitlines(), 1) if line.endswith("// FILL")]
+        source, program, record = (recorder.PROGRAMS / "filled.cc", self.folder / "program",
+                                   self.folder / "app.rec")
+        lines = [f"filled.cc:{number}" for number, line in enumerate(source.read_text().splitlines(), 1)
+                 if line.endswith("// FILL")]
         pairs = {tuple(sorted((one, other))) for one in lines for other in lines}
         for option in ("-O0", "-O2"):
             recorder.build(source, option, program)
             for seed in range(1, 4):
                 recorder.must(recorder.call(program, env=recorder.settings(record, seed)))
-                self.assertEqual(recorder.places(recorder.must(recorder.convert(record)).stdout), pairs, (option, seed))
+                self.assertEqual(recorder.places(recorder.must(recorder.convert(record)).stdout), pairs,
+                                 (option, seed))

@@ -1,5 +1,5 @@
-"""The recorder serves no stranger: neither who starts a program that has rights of its own, nor who has prepared a folder. And it destroys no
-file that isn't its own."""
+"""The recorder serves no stranger: neither who starts a program that has rights of its own, nor who has
+prepared a folder. And it destroys no file that isn't its own."""
 
 import contextlib
 import io
@@ -25,7 +25,8 @@ class Strangers(recorder.Case):
         return out
 
     def record(self, *words):
-        ran = recorder.call(recorder.COMMAND, *words, cwd=self.folder, env={**os.environ, "SHB": str(recorder.SHB)})
+        ran = recorder.call(recorder.COMMAND, *words, cwd=self.folder,
+                            env={**os.environ, "SHB": str(recorder.SHB)})
         return ran.returncode, ran.stderr.decode()
 
     @AS_ROOT
@@ -45,15 +46,18 @@ class Strangers(recorder.Case):
             ran = recorder.must(recorder.call(program, env=asked, preexec_fn=become_nobody))
             handed = {line.partition(b"=")[0] for line in ran.stdout.splitlines()}
             self.assertIn(b"SHB_SEED", handed)      # it ran, and had what the stranger set
-            self.assertEqual((handed & {b"LD_PRELOAD", b"SHB_PRELOAD", b"SHB_RECORD"}, ran.stderr), (set(), b""))
+            self.assertEqual((handed & {b"LD_PRELOAD", b"SHB_PRELOAD", b"SHB_RECORD"}, ran.stderr),
+                             (set(), b""))
         self.assertEqual((kept.read_bytes(), new.exists()), (b"", False))
 
     def test_a_file_that_is_no_record(self):
-        program, record, turns = self.program("short_threads.c"), self.folder / "notes.rec", self.folder / "notes.turns"
+        program, record, turns = (self.program("short_threads.c"), self.folder / "notes.rec",
+                                  self.folder / "notes.turns")
         notes = b"shb-notes of mine\n"
         record.write_bytes(notes)
         ran = recorder.must(recorder.call(program, env=recorder.settings(record)))
-        self.assertEqual(ran.stderr.decode(), f"shb recorder: {record} is no record, and isn't replaced by one; the program runs unrecorded\n")
+        self.assertEqual(ran.stderr.decode(), f"shb recorder: {record} is no record, and isn't replaced by "
+                                              "one; the program runs unrecorded\n")
         self.assertEqual((record.read_bytes(), turns.exists()), (notes, False))
         record.write_bytes(b"")
         turns.write_bytes(notes)
@@ -68,7 +72,8 @@ class Strangers(recorder.Case):
         (folder / LIST).symlink_to(elsewhere)
         status, said = self.record("-o", folder, self.program("short_threads.c"))
         self.assertEqual((status, elsewhere.exists()), (125, False), said)
-        self.assertRegex(said, rf"\Ashb-record: the results can't be put into {folder}: .*; name another folder with -o\n\Z")
+        self.assertRegex(said, rf"\Ashb-record: the results can't be put into {folder}: .*; name another "
+                               r"folder with -o\n\Z")
 
     @AS_ROOT
     def test_a_folder_of_another_user(self):
@@ -86,4 +91,5 @@ class Strangers(recorder.Case):
         said = io.StringIO()
         with unittest.mock.patch("os.geteuid", lambda: os.getuid() + 1), contextlib.redirect_stderr(said):
             results.look_at_owner(self.folder)
-        self.assertEqual(said.getvalue(), f"shb-record: {self.folder} belongs to another user, who can change the results\n")
+        self.assertEqual(said.getvalue(), f"shb-record: {self.folder} belongs to another user, who can "
+                                          "change the results\n")

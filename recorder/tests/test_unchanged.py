@@ -9,12 +9,14 @@ class Unchanged(recorder.Case):
     def program(self, name, *words):
         """Builds a program as for gcc's own library."""
         out = self.folder / name.split(".")[0]
-        recorder.must(recorder.call("gcc", "-w", "-g", "-O1", "-fsanitize=thread", "-pthread", recorder.PROGRAMS / name, "-o", out, *words))
+        recorder.must(recorder.call("gcc", "-w", "-g", "-O1", "-fsanitize=thread", "-pthread",
+                                    recorder.PROGRAMS / name, "-o", out, *words))
         return out
 
     def settings(self, **more):
         """Our library under the name of gcc's."""
-        return {**recorder.settings(self.folder / "app.rec", LD_LIBRARY_PATH=str(recorder.BUILT / "lib")), **more}
+        return {**recorder.settings(self.folder / "app.rec", LD_LIBRARY_PATH=str(recorder.BUILT / "lib")),
+                **more}
 
     def run_recorded(self, *words, **more):
         (self.folder / "app.rec").unlink(missing_ok=True)
@@ -55,8 +57,8 @@ class OwnFiles(Unchanged):
         ran = self.run_recorded(self.program("own_files.c"), "syscall", "moved.rec", "app.rec", SHB_CELLS="0")
         self.assertEqual(ran.stdout, b"3: 1048576 of 1048576\n")
         self.assertEqual((self.folder / "other").read_bytes(), b"x" * (1 << 20))
-        self.assertEqual(ran.stderr, b"shb recorder: no disk space for the record (No such file or directory); "
-                                     b"the recording ends here, the program goes on\n")
+        self.assertEqual(ran.stderr, b"shb recorder: no disk space for the record (No such file or "
+                                     b"directory); the recording ends here, the program goes on\n")
         answer = recorder.part(recorder.convert(self.folder / "moved.rec"))
         self.assertEqual(self.racing_lines(answer), self.marked("own_files.c"))
 
@@ -69,7 +71,8 @@ class OwnLimits(Unchanged):
         if recorder.call(program, way, env=self.settings(SHB_RECORD="")).returncode:
             self.skipTest(f"{way} isn't possible here")
         ran = self.run_recorded(program, way, SHB_CELLS="1024" if "mlockall" in way else "0")
-        said = b"shb recorder: " + reason + b"; the recording ends here, the program goes on\n" if reason else b""
+        said = (b"shb recorder: " + reason + b"; the recording ends here, the program goes on\n" if reason
+                else b"")
         self.assertEqual(ran.stderr, said)
         answer = recorder.convert(self.folder / "app.rec")
         self.assertIn(b"is not the whole run: " + reason if reason else b"events", answer.stderr)
@@ -92,7 +95,8 @@ class OwnLimits(Unchanged):
     def test_system_calls(self):
         for way in ("prctl", "seccomp"):
             with self.subTest(way):
-                self.assertEqual(self.ends(way, b"the program limits its system calls (seccomp)"), (b"ended\n", set()))
+                self.assertEqual(self.ends(way, b"the program limits its system calls (seccomp)"),
+                                 (b"ended\n", set()))
 
 
 class Names(Unchanged):
@@ -106,7 +110,8 @@ class Names(Unchanged):
     def test_the_cxx_library_linked_into_a_program_that_was_linked_with_libtsan(self):
         program = self.folder / "news"
         source = recorder.PROGRAMS / "news.cc"
-        recorder.must(recorder.call("g++", "-w", "-g", "-O1", "-fsanitize=thread", "-static-libstdc++", source, "-o", program))
+        recorder.must(recorder.call("g++", "-w", "-g", "-O1", "-fsanitize=thread", "-static-libstdc++",
+                                    source, "-o", program))
         self.assertEqual(self.run_recorded(program).stdout, b"8 blocks\n")
 
     def built(self, source, *words):
@@ -115,12 +120,16 @@ class Names(Unchanged):
         sources = ["-w", "-g", "-O1", "-std=c++17", "-pthread", recorder.PROGRAMS / source, *words]
         recorder.must(recorder.call("g++", *sources, "-o", self.folder / "alone"))
         recorder.must(recorder.call("g++", "-fsanitize=thread", *sources, "-o", out))
-        return out, recorder.must(recorder.call(self.folder / "alone", env=self.settings(SHB_RECORD="", LD_LIBRARY_PATH=str(self.folder)))).stdout
+        return out, recorder.must(recorder.call(self.folder / "alone",
+                                                env=self.settings(
+                                                    SHB_RECORD="", LD_LIBRARY_PATH=str(self.folder)))).stdout
 
     def test_an_allocator_of_the_programs_own(self):
-        """In the program or in a library: what `new` gave is what `delete` takes, and a block's size is asked of the one that gave it."""
+        """In the program or in a library: what `new` gave is what `delete` takes, and a block's size is asked
+        of the one that gave it."""
         library, part = self.folder / "liballocator.so", self.folder / "allocator.o"
-        recorder.must(recorder.call("gcc", "-shared", "-fPIC", "-O1", recorder.PROGRAMS / "allocator.c", "-o", library))
+        recorder.must(recorder.call("gcc", "-shared", "-fPIC", "-O1", recorder.PROGRAMS / "allocator.c", "-o",
+                                    library))
         recorder.must(recorder.call("gcc", "-c", "-O1", recorder.PROGRAMS / "allocator.c", "-o", part))
         for source in ("news.cc", "allocated.cc"):
             for where in (library, part):
@@ -143,7 +152,8 @@ class Library(Unchanged):
         for words in (["-O0"], ["-O2"], ["-O2", "-D_FORTIFY_SOURCE=2"]):
             with self.subTest(words):
                 program = self.program("library_unchanged.c", *words)
-                alone = recorder.must(recorder.call(program, env=self.settings(SHB_RECORD=""), cwd=self.folder))
+                alone = recorder.must(recorder.call(program, env=self.settings(SHB_RECORD=""),
+                                                    cwd=self.folder))
                 ran = self.run_recorded(program)
                 self.assertIn(b"errno 77\nended\n", alone.stdout)
                 self.assertEqual((ran.stdout, ran.stderr), (alone.stdout, b""))
@@ -168,7 +178,8 @@ class NoRights(Unchanged):
                 answer = recorder.must(recorder.convert(self.folder / "app.rec"))
                 self.assertEqual(self.racing_lines(answer), self.marked("no_proc.c"))
                 filled, expected = 0, []
-                for thread in re.findall(r"^(\w+)\S*\|[wr]\(block\[67108863\]\)", answer.stdout.decode(), re.M):
+                for thread in re.findall(r"^(\w+)\S*\|[wr]\(block\[67108863\]\)", answer.stdout.decode(),
+                                         re.M):
                     filled += thread != "main"
                     expected += [filled] * (thread == "main")
                 self.assertEqual([int(value) for value in ran.stdout.split()], expected)
@@ -176,7 +187,8 @@ class NoRights(Unchanged):
     def test_where_nothing_tells_who_sleeps_the_recording_ends(self):
         reason = b"a thread's state cannot be read in /proc"
         ran = self.run_without("close")
-        self.assertEqual(ran.stderr, b"shb recorder: " + reason + b"; the recording ends here, the program goes on\n")
+        self.assertEqual(ran.stderr, b"shb recorder: " + reason + b"; the recording ends here, the program "
+                                                                  b"goes on\n")
         answer = recorder.part(recorder.convert(self.folder / "app.rec"))
         self.assertIn(b"is not the whole run: " + reason, answer.stderr)
         self.assertLessEqual(self.racing_lines(answer), self.marked("no_proc.c"))

@@ -4,7 +4,8 @@ import recorder
 from shb_common import uses as files
 from test_record import BLOCK, HEADER, LATE_ENTRIES, LOCK, RANGE, entry, late
 
-# The trace has the worker's first read alone, for the others repeat it, and nothing of the lock there, which no other thread uses.
+# The trace has the worker's first read alone, for the others repeat it, and nothing of the lock there, which
+# no other thread uses.
 PROGRAM = """#include <pthread.h>
 static long x;
 static pthread_mutex_t m = PTHREAD_MUTEX_INITIALIZER;
@@ -33,32 +34,38 @@ class Uses(recorder.Case):
         recorder.build(source, "-O1", program)
         recorder.must(recorder.call(program, env=recorder.settings(record, SHB_CELLS="0")))
         recorder.listed(record, self.folder / "u.std")
-        fields = [line.split("\t") for line in (self.folder / "u.uses").read_text().splitlines() if line.startswith("use\tr\t")]
+        fields = [line.split("\t") for line in (self.folder / "u.uses").read_text().splitlines()
+                  if line.startswith("use\tr\t")]
         sums = [tuple(its[at:at + 3]) for its in fields for at in range(5, len(its), 3)]
         self.assertEqual(sorted((kind, count, name if kind != "held" else "") for kind, count, name in sums),
                          [("by", "6", "T1.work"), ("held", "6", ""), ("under", "6", "m")])
 
     def test_sums_of_each_line_and_way(self):
-        """By two threads, under a lock, under it and one for reading, and under none; a free is apart, and so is another variable."""
+        """By two threads, under a lock, under it and one for reading, and under none; a free is apart, and so
+        is another variable."""
         def access(thread, kind, place=0x300):
             return entry(thread, kind, BLOCK, place, 4)
 
         def under(thread, *inside):
             return [entry(thread, "LOCK", LOCK, 0x301), *inside, entry(thread, "UNLOCK", LOCK, 0x302)]
 
-        entries = [entry(0, "ALLOC", BLOCK, 0x100, 4), entry(0, "FORK", 1, 0x101), access(0, "WRITE"), access(1, "READ"), *under(1, access(1, "WRITE")),
-                   entry(1, "READ_LOCK", LOCK + 64, 0x303), *under(1, access(1, "WRITE"), access(1, "WRITE")), entry(1, "RW_UNLOCK", LOCK + 64, 0x304),
+        entries = [entry(0, "ALLOC", BLOCK, 0x100, 4), entry(0, "FORK", 1, 0x101), access(0, "WRITE"),
+                   access(1, "READ"), *under(1, access(1, "WRITE")),
+                   entry(1, "READ_LOCK", LOCK + 64, 0x303), *under(1, access(1, "WRITE"), access(1, "WRITE")),
+                   entry(1, "RW_UNLOCK", LOCK + 64, 0x304),
                    access(0, "READ"), access(0, "READ"), entry(0, "FREE", BLOCK, 0x300)]
         record, races, uses = (self.folder / name for name in ("app.rec", "races", "uses"))
         record.write_bytes(HEADER + b"".join(entries))
         races.write_text("2 3 0x100#1\n")
         recorder.must(recorder.convert(record, "--only", races, "--uses", uses))
         lines = [line.split("\t") for line in uses.read_text().splitlines()]
-        found = {line[1]: {tuple(line[at:at + 3]) for at in range(5, len(line), 3)} for line in lines if line[0] == "use"}
+        found = {line[1]: {tuple(line[at:at + 3]) for at in range(5, len(line), 3)}
+                 for line in lines if line[0] == "use"}
         self.assertEqual({tuple(line[2:5]) for line in lines if line[0] == "use"}, {("0x100#1", "", "0x300")})
         self.assertEqual(found, {
             "r": {("by", "1", "T1"), ("by", "2", "main"), ("bare", "3", "0")},
-            "w": {("by", "1", "main"), ("by", "3", "T1"), ("bare", "1", "0"), ("held", "3", "0"), ("under", "3", hex(LOCK)), ("reading", "2", hex(LOCK + 64))},
+            "w": {("by", "1", "main"), ("by", "3", "T1"), ("bare", "1", "0"), ("held", "3", "0"),
+                  ("under", "3", hex(LOCK)), ("reading", "2", hex(LOCK + 64))},
             "f": {("by", "1", "main"), ("bare", "1", "0")}})
 
     def test_a_file_that_is_damaged_or_of_another_version(self):
@@ -66,9 +73,12 @@ class Uses(recorder.Case):
         path.write_text(f"shb-uses 2\n{line}events\t0\n")
         [use] = files.Uses(path).uses
         self.assertEqual(use, (b"r", b"x", b"", b"a.c:1", [(b"by", 1, b"T1"), (b"bare", 1, 0)]))
-        for text, said in ((f"{line}events\t0\n", "is of another version"), ("shb-uses 1\n", "is of another version"), ("", "is of another version"),
-                           *((f"shb-uses 2\n{line.replace(*change)}events\t0\n", "is damaged in line 2") for change in (
-                               ("by", "to"), ("\t1\tT1", "\tT1\tT1"), ("\t0\n", "\n"), ("\t0\n", "\tm\n"), ("\tr", "\tq")))):
+        for text, said in ((f"{line}events\t0\n", "is of another version"),
+                           ("shb-uses 1\n", "is of another version"), ("", "is of another version"),
+                           *((f"shb-uses 2\n{line.replace(*change)}events\t0\n", "is damaged in line 2")
+                             for change in (
+                               ("by", "to"), ("\t1\tT1", "\tT1\tT1"), ("\t0\n", "\n"), ("\t0\n", "\tm\n"),
+                               ("\tr", "\tq")))):
             path.write_text(text)
             with self.assertRaisesRegex(files.BadUses, said):
                 files.Uses(path)
@@ -81,16 +91,20 @@ class Uses(recorder.Case):
         record.write_bytes(HEADER + b"".join(entries))
         races.write_text(f"2 4 {hex(RANGE)}\n")
         recorder.must(recorder.convert(record, "--only", races, "--uses", uses))
-        [line] = [line.split("\t") for line in uses.read_text().splitlines() if line.startswith("use\tw") and "\t0x302\t" in line]
+        [line] = [line.split("\t") for line in uses.read_text().splitlines() if line.startswith("use\tw")
+                  and "\t0x302\t" in line]
         sums = {(line[at], line[at + 2]): int(line[at + 1]) for at in range(5, len(line), 3)}
-        self.assertEqual(sums, {("by", "T1"): 65, ("held", "0"): 64, ("many", "0"): 1, **{("under", hex(LOCK + 64 * number)): 64 - number for number in range(64)}})
+        self.assertEqual(sums,
+                         {("by", "T1"): 65, ("held", "0"): 64, ("many", "0"): 1,
+                          **{("under", hex(LOCK + 64 * number)): 64 - number for number in range(64)}})
 
     def repeated(self, entries, race):
         """The events of the page's trace of a race that stand for others, and that trace."""
         record, races, uses = (self.folder / name for name in ("app.rec", "races", "uses"))
         record.write_bytes(HEADER + b"".join(entries))
         races.write_text(f"{race} {hex(RANGE)}\n")
-        trace = recorder.must(recorder.convert(record, "--only", races, "--uses", uses)).stdout.decode().splitlines()
+        trace = recorder.must(recorder.convert(record, "--only", races, "--uses",
+                                               uses)).stdout.decode().splitlines()
         lines = [line.split("\t") for line in uses.read_text().splitlines()]
         return sorted(trace[int(fields[1]) - 1] for fields in lines if fields[0] == "repeated")
 
@@ -108,14 +122,18 @@ class Uses(recorder.Case):
             return entry(thread, kind, RANGE, place, size)
 
         record, races, uses = (self.folder / name for name in ("app.rec", "races", "uses"))
-        record.write_bytes(HEADER + entry(0, "FORK", 1, 0x101) + access(0, "WRITE", 0x102) + access(1, "READ", 0x201) + access(1, "WRITE", 0x202)
-                           + access(1, "READ", 0x203) + access(0, "READ", 0x103) + access(0, "READ", 0x104) + access(1, "ATOMIC_STORE", 0x204, 4 | 3 << 5)
+        record.write_bytes(HEADER + entry(0, "FORK", 1, 0x101) + access(0, "WRITE", 0x102)
+                           + access(1, "READ", 0x201) + access(1, "WRITE", 0x202)
+                           + access(1, "READ", 0x203) + access(0, "READ", 0x103) + access(0, "READ", 0x104)
+                           + access(1, "ATOMIC_STORE", 0x204, 4 | 3 << 5)
                            + access(0, "READ", 0x103))
         races.write_text(f"2 3 {hex(RANGE)}\n")
         recorder.must(recorder.convert(record, "-n", "3", "--only", races, "--uses", uses))
         found = [line.split("\t")[1:] for line in uses.read_text().splitlines() if line.startswith("seen\t")]
         name = hex(RANGE)
-        self.assertEqual(sorted(found), sorted([[name, "0x102", "0x201"], [name, "0x202", "0x103"], [name, "0x202", "0x104"], [f"{name}!T1", "0x204", "0x103"]]))
+        self.assertEqual(sorted(found),
+                         sorted([[name, "0x102", "0x201"], [name, "0x202", "0x103"], [name, "0x202", "0x104"],
+                                 [f"{name}!T1", "0x204", "0x103"]]))
 
     def test_a_late_access_that_stands_for_earlier_ones(self):
         """The last entry of these comes twice, and says so; with and without that."""
@@ -124,12 +142,14 @@ class Uses(recorder.Case):
         for which, is_repeated in enumerate([(0, 0), (0, 1), (1, 0), (1, 1)]):
             beat = entry(0, "WRITE", RANGE, 0x102, 4)
             both = [late(2, 1, beat, is_repeated=repeated) for repeated in is_repeated]
-            self.assertEqual(self.repeated([*first, *both], "2 3"), ["main|w(0x40000000)|0x102"] * any(is_repeated), which)
+            self.assertEqual(self.repeated([*first, *both], "2 3"),
+                             ["main|w(0x40000000)|0x102"] * any(is_repeated), which)
 
     def test_a_read_that_stands_for_later_ones(self):
         """Until the variable is written, or the thread orders another."""
         read, written = entry(0, "READ", RANGE, 0x102, 4), entry(1, "WRITE", RANGE, 0x201, 4)
         lock = [entry(thread, kind, RANGE + 64, 0x103) for thread in (1, 0) for kind in ("LOCK", "UNLOCK")]
-        for between, is_repeated in (([], True), ([written], False), (lock, False), ([entry(0, "READ", RANGE, 0x104, 4)], True)):
+        for between, is_repeated in (([], True), ([written], False), (lock, False),
+                                     ([entry(0, "READ", RANGE, 0x104, 4)], True)):
             found = self.repeated([entry(0, "FORK", 1, 0x101), written, read, *between, read], "2 3")
             self.assertEqual(found, ["main|r(0x40000000)|0x102"] * is_repeated)

@@ -8,10 +8,9 @@ The gate alone (make test) is the verdict.
 
 - the form of the must-fail edits, the layout, the names in documents;
 - `rt check` in each crate that changed and, without --quick, in those above it: over the work that
-earlier checks kept;
-- without --quick: the must-fail edits of the crates that the record (tests/gate/refused.sums) doesn't answer
-for, the crates'
-  calls, and the Python tests of the folders that changed.
+  earlier checks kept;
+- without --quick: the must-fail edits of the crates that the record (tests/gate/refused.sums) doesn't
+  answer for, the crates' calls, and the Python tests of the folders that changed.
 
 --quick is what takes less than five minutes after a small change, once the crates below have
 been checked before.

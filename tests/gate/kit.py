@@ -1,10 +1,10 @@
 """What the gate takes from the kit beside its commands. Another kit may want changes here, and only here.
 
 - the kit's command `rt` as a module: it reads an edit, and checks a copy of a crate over the libraries that
-`rt ci` left;
+  `rt ci` left;
 - the lines of `rt ci` that tell when a crate's library is there;
 - the checked modules of a built library, which lie in an archive of ar: their names tell how the
-checker names functions.
+  checker names functions.
 """
 
 import functools
