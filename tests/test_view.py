@@ -16,10 +16,10 @@ import unittest.mock
 import judge
 import program
 import shb
-from viewing import EXAMPLES, MADE, made, run, run_here, sections, settings, windows
+from viewing import EXAMPLES, MADE, QUIET, made, run, run_here, sections, settings, windows
 
 from shb_common import progress
-from shb_view import command, counting, groups, names, view
+from shb_view import command, counting, groups, names, trace, view
 
 FORK_JOIN = """\
 fork-join.std: 1 race at 1 place, in 1 group (7 events, 2 threads, 0 locks, 2 variables)
@@ -656,6 +656,16 @@ class Windows(program.Case):
                              if event[1:] == (b"fork", events[access - 1][0])]
                     self.assertEqual(window.forks[access], forks[0] if forks else 0)
         self.assertGreater(min(edges, locks), 30)
+
+    def test_a_trace_that_becomes_shorter(self):
+        with tempfile.TemporaryFile() as file:
+            file.write(b"a|w(x)|a.c:1\n\na|w(x)|a.c:3\r\na|w(x)|a.c:4\n")
+            its = trace.Trace(file, QUIET)
+            self.assertEqual(len(list(its.events("reading"))), 3)
+            self.assertEqual(its.find([1, 3]), {1: (1, b"a|w(x)|a.c:1"), 3: (4, b"a|w(x)|a.c:4")})
+            self.assertEqual(its.find([2]), {2: (3, b"a|w(x)|a.c:3")})
+            file.truncate(20)
+            self.assertRaises(IndexError, its.find, [3])
 
 
 def source(events, e):

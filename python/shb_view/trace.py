@@ -2,6 +2,7 @@
 
 import bisect
 import collections
+import itertools
 import os
 import re
 
@@ -94,16 +95,13 @@ class Trace:
 
     def find(self, events):
         """The lines of a few events, by event. All batches were read before."""
+        def batch_of(event):
+            return self.marks[bisect.bisect_left(self.marks, (event, 0, 0)) - 1]
+
         found = {}
-        at = row = 0
-        for event in sorted(events):
-            mark = self.marks[bisect.bisect_left(self.marks, (event, 0, 0)) - 1]
-            if not found or mark[0] > at:
-                at, row = mark[:2]
-                self.file.seek(mark[2])
-            while at < event:
-                line = without_end(self.file.readline())
-                row += 1
-                at += 1 if line else 0
-            found[event] = Found(row, line)
+        for (before, rows, place), its in itertools.groupby(sorted(events), batch_of):
+            self.file.seek(place)
+            lines = enumerate(map(without_end, self.file.readlines(BATCH)), rows + 1)
+            of_events = [Found(row, line) for row, line in lines if line]
+            found.update((event, of_events[event - before - 1]) for event in its)
         return found

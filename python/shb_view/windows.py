@@ -36,15 +36,16 @@ class Moments:
         self.last = {}  # by thread
 
     def read(self, trace):
-        wanted, tracked, last, operations = self.wanted, self.tracked, self.last, self.operations
+        wanted, tracked, last, parts = self.wanted, self.tracked, self.last, trace.parts
         end = max(wanted, default=0)
         for number, thread, operation, _ in trace.events("reading what comes before"):
-            if number in trace.parts:
+            if number in parts:
                 self.latest.clear()
             if number in wanted or operation in tracked:
                 self.note(number, thread, operation)
-            if operation[1] != OPENS and operations[operation]:
-                self.held[thread].take(*operations[operation], number)
+            lock = self.operations[operation] if operation[1] != OPENS else None
+            if lock:
+                self.held[thread].take(*lock, number)
             last[thread] = number
             if number >= end:
                 break
