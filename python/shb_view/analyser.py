@@ -30,9 +30,8 @@ class Analyser:
         try:
             return Run([self.program, *words], rewound(given), out, **how)
         except OSError as fault:
-            name = short(os.fsencode(self.program), MOST_SAID)
-            raise Refused(
-                f"`{name}` can't be run ({fault.strerror}); SHB=PROGRAM names another `shb`") from None
+            name, why = short(os.fsencode(self.program), MOST_SAID), fault.strerror
+            raise Refused(f"`{name}` can't be run ({why}); SHB=PROGRAM names another `shb`") from None
 
     def ended(self, words, run, good=(0,)):
         """Waits for the end of a run, and returns its status. Refused if that isn't one of the good ones."""

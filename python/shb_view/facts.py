@@ -276,8 +276,8 @@ def publication(published):
         return None
     store, load, *_ = published[0][0]
     wrong, order = (load, "acquire") if store.gives() else (store, "release")
-    both = "" if store.gives() or load.takes() else [", and ", place(load.location),
-                                                     " reads it without acquire"]
+    is_one = store.gives() or load.takes()
+    both = "" if is_one else [", and ", place(load.location), " reads it without acquire"]
     tag = [place(wrong.location), " reads " if wrong is load else " writes ", Code(published[0][0].name),
            f" without {order}", *both]
     said = [{"atomic": text(pair.store.name), "store": pair.store.said(), "load": pair.load.said(),

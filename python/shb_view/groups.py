@@ -141,8 +141,8 @@ class Gathered:
         for name, events in self.events.items():
             variable = self.atomics.get(name, name)
             if variable in stacks.locals:
-                found.setdefault(variable, set()).update(stacks.local_of(variable, event)
-                                                         for event in set(events))
+                names = {stacks.local_of(variable, event) for event in set(events)}
+                found.setdefault(variable, set()).update(names)
         self.locals = {variable: names.pop() for variable, names in found.items() if len(names) == 1
                        and b"" not in names}
 

@@ -100,6 +100,6 @@ def published(races, pairs, frees):
             if not common:
                 return []
         pair = min(common.values(), key=lambda it: (it.store.event, it.load.event))
-        races = [[race.first, race.second] for race in its[:MOST_RACES]]
-        found.setdefault(pair.key()[:3], (pair, []))[1].extend(races)
+        _, events = found.setdefault(pair.key()[:3], (pair, []))
+        events.extend([race.first, race.second] for race in its[:MOST_RACES])
     return list(found.values())[:MOST_NAMED]

@@ -93,8 +93,8 @@ def is_seen(character):
     """Whether the character is shown as it is. Marks print where there is a character before them."""
     if character == "\\" or character in UNSEEN:
         return False
-    return unicodedata.category(character).startswith("M") or (
-        character.isprintable() and unicodedata.is_normalized("NFC", character))
+    is_mark = unicodedata.category(character).startswith("M")
+    return is_mark or character.isprintable() and unicodedata.is_normalized("NFC", character)
 
 
 def escape(character):

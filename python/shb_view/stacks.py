@@ -66,9 +66,8 @@ def caller_lines(frames, most):
     innermost stands for them."""
     own = [number for number, frame in enumerate(frames) if not frame.in_system]
     if not own:
-        more = [[f"({counted(len(frames) - 1, 'more function')} of the system's headers or libraries)"]] * (
-            len(frames) > 1)
-        return [*map(frame_parts, frames[:1]), *more]
+        more = [[f"({counted(len(frames) - 1, 'more function')} of the system's headers or libraries)"]]
+        return [*map(frame_parts, frames[:1]), *more * (len(frames) > 1)]
     found = []
     for in_system, its in itertools.groupby(frames[own[0]:own[-1] + 1], lambda frame: frame.in_system):
         lines = list(map(frame_parts, its))
