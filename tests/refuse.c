@@ -1,8 +1,7 @@
-/* Preloaded into the program: refuses the request for memory of number REFUSE_MEMORY, counted from 1, and with
-   REFUSE_THREADS every thread from that number on; with REFUSE_RANDOM it refuses random numbers, and with WATCH_READS
-   each read after the end of a file.
-   Makes the file REFUSED where it refused something. Each thread but the first is held at its hundredth request for as
-   long as there is a file HELD. */
+/* Preloaded into the program: refuses the request for memory of number REFUSE_MEMORY, counted from 1, and
+   with REFUSE_THREADS every thread from that number on; with REFUSE_RANDOM it refuses random numbers, and
+   with WATCH_READS each read after the end of a file. Makes the file REFUSED where it refused something. Each
+   thread but the first is held at its hundredth request for as long as there is a file HELD. */
 #define _GNU_SOURCE
 #include <dlfcn.h>
 #include <errno.h>
@@ -69,7 +68,8 @@ int pthread_create(pthread_t *thread, const pthread_attr_t *how, void *(*start)(
     static int (*next)(pthread_t *, const pthread_attr_t *, void *(*)(void *), void *);
     if (!next) next = dlsym(RTLD_NEXT, "pthread_create");
     long first = setting("REFUSE_THREADS");
-    if (first == 0 || __atomic_add_fetch(&threads, 1, __ATOMIC_SEQ_CST) < first) return next(thread, how, start, given);
+    if (first == 0 || __atomic_add_fetch(&threads, 1, __ATOMIC_SEQ_CST) < first)
+        return next(thread, how, start, given);
     note();
     return EAGAIN;
 }
@@ -93,6 +93,7 @@ ssize_t read(int file, void *buffer, size_t size) {
         return -1;
     }
     ssize_t count = next(file, buffer, size);
-    if (is_watched && size && count == 0) has_ended[file] = 1;     /* no byte is asked for where standard input is only looked at */
+    /* no byte is asked for where standard input is only looked at */
+    if (is_watched && size && count == 0) has_ended[file] = 1;
     return count;
 }
