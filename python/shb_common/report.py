@@ -184,7 +184,7 @@ def in_order(file, race, events):
     """Some events in the order of the race's schedule, which `shb check` found good, and that schedule."""
     file.seek(race.schedule)
     line = file.readline().replace(b"\n", b" ")
-    places, head = {event: line.find(b" %d " % event) for event in events}, SCHEDULE.match(line)
+    places, head = {event: line.rfind(b" %d " % event) for event in events}, SCHEDULE.match(line)
     length = int(head[1])
     has_few = length <= MOST_EVENTS
     schedule = Schedule(length, list(map(int, line[head.end():].split())) if has_few else None)
