@@ -29,7 +29,7 @@
 #define LOGARITHM_BITS 3
 #define DEPTH_BEFORE 63
 #define IS_RANGE 512
-#define MAX_SIZE (1ull << 36)          /* of a range; none is as long */
+#define MAX_SIZE (1ull << 36)          /* of a range; as long a one is held in reserve, and not recorded */
 /* that of one which is over is used again when there is no new one: each fork begins another thread */
 #define THREAD_NUMBERS 65534
 #define MOST_FRAMES 16384              /* of a thread; those further in aren't recorded */

@@ -29,8 +29,7 @@ uint64_t begin_call(uint64_t caller) {
 
 void note_range(uint64_t seen, enum operation operation, const volatile void *p, uint64_t bytes) {
     uint64_t from = (uint64_t)p;
-    if (!p || !bytes || bytes >= MAX_SIZE || from >= FIRST_DESCRIPTOR || bytes > FIRST_DESCRIPTOR - from)
-        return;
+    if (!p || !bytes || from >= FIRST_DESCRIPTOR || bytes > FIRST_DESCRIPTOR - from) return;
     note_bytes(YIELDS_BY_LIST, operation, p, bytes, seen);
 }
 

@@ -310,7 +310,7 @@ void put_name(thread *t, thread *named, const char *name) {
 void note_bytes(enum yields yields, enum operation operation, const volatile void *p, uint64_t size,
                 uint64_t caller) {
     int saved = errno;
-    if (is_plain(operation) && hold_range(operation, (uint64_t)p, size, caller)) return;
+    if (size >= MAX_SIZE || (is_plain(operation) && hold_range(operation, (uint64_t)p, size, caller))) return;
     thread *t = enter_access(yields);
     if (t) {
         put(t, operation, p, size, caller);

@@ -92,6 +92,9 @@ class OwnLimits(Unchanged):
     def test_a_limit_of_addresses(self):
         self.assertEqual(self.ends("addresses", b""), (b"ended\n", self.marked("own_limits.c")))
 
+    def test_more_addresses_in_reserve_than_a_block_has(self):
+        self.assertEqual(self.ends("reserve", b""), (b"ended\n", self.marked("own_limits.c")))
+
     def test_system_calls(self):
         for way in ("prctl", "seccomp"):
             with self.subTest(way):

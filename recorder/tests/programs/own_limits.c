@@ -1,4 +1,4 @@
-/* Sets a limit on itself, named by its first word, and then its two threads race. */
+/* Sets a limit on itself, named by its first word, or reserves a terabyte, and then its two threads race. */
 #define _GNU_SOURCE
 #include <linux/filter.h>
 #include <linux/seccomp.h>
@@ -50,6 +50,10 @@ static int limit_addresses(void) {
     return setrlimit(RLIMIT_AS, &two_gigabytes) || !malloc(1024ul * MEGABYTE);
 }
 
+static int reserve(void) {
+    return mmap(0, 1ul << 40, PROT_READ | PROT_WRITE, MAP_PRIVATE | MAP_ANONYMOUS | MAP_NORESERVE, -1, 0) == MAP_FAILED;
+}
+
 int main(int argc, char **argv) {
     pthread_t a, b;
     struct rlimit small = {MEGABYTE, MEGABYTE}, little = {8 * MEGABYTE, 8 * MEGABYTE};
@@ -59,6 +63,7 @@ int main(int argc, char **argv) {
     if (!strcmp(argv[1], "mlockall-limited"))
         failed = setrlimit(RLIMIT_MEMLOCK, &little) || (!getuid() && setuid(65534)) || lock_memory();
     if (!strcmp(argv[1], "addresses")) failed = limit_addresses();
+    if (!strcmp(argv[1], "reserve")) failed = reserve();
     if (!strcmp(argv[1], "prctl")) failed = limit_calls(0);
     if (!strcmp(argv[1], "seccomp")) failed = limit_calls(1);
     pthread_create(&a, 0, work, &kept[0]);
