@@ -339,5 +339,6 @@ void let_others_run(void);             /* gives the turn up before a call that m
 
 /* threads.c */
 extern volatile int others;            /* threads that were created and not joined */
+void after_fork(pid_t made);            /* what was made without fork's handlers: 0 in the child */
 void note_name(pthread_t handle, const char *name);          /* the program gives a thread this name */
 #pragma GCC visibility pop

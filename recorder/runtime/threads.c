@@ -1,6 +1,7 @@
 /* The begin and the end of the program and of its threads. */
 #include "hold.h"
 #include <linux/futex.h>
+#include <sched.h>
 #include <sys/auxv.h>
 #include <threads.h>
 
@@ -92,6 +93,34 @@ static void in_child(void) {
     begin_inside(self);
     put(self, OP_START, self->stack, self->stack_size, 0);
     leave(self);
+}
+
+/* What makes a process without the handlers of fork. With CLONE_VM it uses its parent's memory, as one made
+   by vfork. */
+void after_fork(pid_t made) { if (!made) in_child(); }
+
+PUBLIC pid_t _Fork(void) {
+    pid_t made = REAL(_Fork)();
+    after_fork(made);
+    return made;
+}
+
+typedef struct { int (*function)(void *); void *argument; } child_start;
+
+static int begin_child(void *start_) {
+    child_start *start = start_;
+    in_child();
+    return start->function(start->argument);
+}
+
+PUBLIC int clone(int (*function)(void *), void *stack, int flags, void *argument, ...) {
+    child_start start = {function, argument};
+    va_list more;
+    va_start(more, argument);
+    void *parent = va_arg(more, void *), *tls = va_arg(more, void *), *child = va_arg(more, void *);
+    va_end(more);
+    if (flags & CLONE_VM) return REAL(clone)(function, stack, flags, argument, parent, tls, child);
+    return REAL(clone)(begin_child, stack, flags, &start, parent, tls, child);
 }
 
 /* It starts threads and nobody records them: it says so, once. */

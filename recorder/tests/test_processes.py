@@ -54,6 +54,15 @@ class Processes(recorder.Case):
         parent, child = sorted(marked("processes.c")), sorted(children)
         self.assertEqual(found, sorted([(1, parent), (1, child), (1, child), (2, [])]))  # the last by exec
 
+    def test_a_process_made_without_handlers_of_fork_writes_nothing_into_its_parents_record(self):
+        program = self.program("clones.c")
+        for number, way in enumerate(("clone", "_Fork", "fork as a system call", "clone as one")):
+            with self.subTest(way):
+                ran = recorder.must(recorder.call(program, number,
+                                                  env=self.settings(f"{number}.rec", SHB_CELLS="0")))
+                self.assertEqual((ran.stderr, racing_lines(self.folder / f"{number}.rec")),
+                                 (b"", marked("clones.c")))
+
     def test_a_daemon(self):
         program = self.program("daemon.c")
         with subprocess.Popen([program], env=self.settings(), stdout=subprocess.PIPE) as running:

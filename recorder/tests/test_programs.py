@@ -53,8 +53,9 @@ class Program(recorder.Case):
 
 def load_tests(loader, tests, pattern):
     sources = sorted(path for path in recorder.PROGRAMS.iterdir() if path.suffix in (".c", ".cc"))
-    others = {"order.c", "deadlock.c", "long_run.c", "processes.c", "daemon.c", "plugin_host.c", "plugin.cc",
-              "plugins.c", "plugin_one.c", "plugin_two.c", "openmp_taskloop.c", "openmp_unseen.c",
+    others = {"order.c", "deadlock.c", "long_run.c", "processes.c", "clones.c", "daemon.c", "plugin_host.c",
+              "plugin.cc", "plugins.c", "plugin_one.c", "plugin_two.c", "openmp_taskloop.c",
+              "openmp_unseen.c",
               "ways_out.c", "status.c", "loop.c", "copies.c", "long_race.c", "calls.c", "contexts.c",
               "both_orders.c",
               "calls_cxx.cc", "inlined.cc", "headers.cc", "filled.cc", "own_files.c", "own_limits.c",
