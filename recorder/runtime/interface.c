@@ -40,13 +40,17 @@ PUBLIC int __sanitizer_acquire_crash_state(void) {           /* it is the first 
 PUBLIC __thread uint64_t __sancov_lowest_stack __attribute__((tls_model("initial-exec")));
 
 /* ---- the barrier of ThreadSanitizer's own tests: threads meet there, and it orders none of them ---- */
-enum { THREAD_BITS = 10 };             /* of how many they are; above is how many came. Newer tests have no more than these four bytes */
+/* of how many they are; above is how many came. Newer tests have no more than these four bytes */
+enum { THREAD_BITS = 10 };
 
 PUBLIC void __tsan_testonly_barrier_init(_Atomic uint32_t *m, uint32_t threads) { atomic_store(m, threads); }
 
 PUBLIC void __tsan_testonly_barrier_wait(_Atomic uint32_t *m) {
-    uint32_t before = atomic_fetch_add(m, 1 << THREAD_BITS), threads = before % (1 << THREAD_BITS), round = (before >> THREAD_BITS) / threads, now;
+    uint32_t before = atomic_fetch_add(m, 1 << THREAD_BITS), threads = before % (1 << THREAD_BITS),
+        round = (before >> THREAD_BITS) / threads, now;
     let_others_run();
-    while (((now = atomic_load(m)) >> THREAD_BITS) / threads == round) syscall(SYS_futex, m, FUTEX_WAIT_PRIVATE, now, 0, 0, 0);
-    if (((before >> THREAD_BITS) + 1) % threads == 0) syscall(SYS_futex, m, FUTEX_WAKE_PRIVATE, INT_MAX, 0, 0, 0);
+    while (((now = atomic_load(m)) >> THREAD_BITS) / threads == round)
+        syscall(SYS_futex, m, FUTEX_WAIT_PRIVATE, now, 0, 0, 0);
+    if (((before >> THREAD_BITS) + 1) % threads == 0)
+        syscall(SYS_futex, m, FUTEX_WAKE_PRIVATE, INT_MAX, 0, 0, 0);
 }
