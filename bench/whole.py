@@ -8,39 +8,32 @@
 Each is run with gcc's library, which reports nothing, and by shb-record with seed 1, in turn, in a folder of
 its own; the built analyser is bin/shb, or what SHB names. The first run compiles Python's modules; an
 installation has compiled ones. CPU seconds are user and system time with those of all processes that were
-started, the least of RUNS runs (3); memory is the most that one of them had. The aim is ThreadSanitizer's
-time and 0.4 microseconds for each event.
+started, the least of RUNS runs (3); memory is the most that one of them had. The phases are run by
+themselves: recording, shb-std's trace of the run, and the analyser on it; what the whole takes besides is the
+rest. The aim is ThreadSanitizer's time and 0.4 microseconds for each event.
 """
 
 import os
 import pathlib
-import re
 import subprocess
 import sys
 import tempfile
 
 TOP = pathlib.Path(__file__).resolve().parent.parent
 ROUNDS = {"account": None, "compressor": 48, "table": 560_000, "atomic_lock": 150_000}
+SHB = os.environ.get("SHB", TOP / "bin" / "shb")
 A_PLACE = 66  # the status where there is one that isn't known
 EVENT = 0.4e-6
 
 
-def processor_seconds(words, status, **how):
+def processor_seconds(words, status=0, out=subprocess.DEVNULL, **how):
     """What one run takes, and the most memory of one of its processes, in MB."""
-    running = subprocess.Popen([str(word) for word in words], stdout=subprocess.DEVNULL,
-                               stderr=subprocess.DEVNULL, **how)
+    running = subprocess.Popen([str(word) for word in words], stdout=out, stderr=subprocess.DEVNULL, **how)
     _, ended, usage = os.wait4(running.pid, 0)
     running.returncode = ended
     if os.WEXITSTATUS(ended) not in (0, status):
         sys.exit(f"{words}: status {os.WEXITSTATUS(ended)}")
     return usage.ru_utime + usage.ru_stime, usage.ru_maxrss >> 10
-
-
-def events_of(record):
-    """How many events the run's trace has."""
-    said = subprocess.run([TOP / "recorder/shb-std", "--list", record], stdout=subprocess.DEVNULL,
-                          stderr=subprocess.PIPE, check=True).stderr
-    return int(re.search(rb"(\d+) events", said)[1])
 
 
 def build(kind, folder):
@@ -52,30 +45,52 @@ def build(kind, folder):
     return folder / kind, *rounds
 
 
-def print_row(name, words, runs, folder):
-    record, least, memory = folder / "app.rec", {}, 0
+def whole(words, runs, folder, environment):
+    """The least seconds of ThreadSanitizer and of shb-record, and the most memory of the latter."""
+    least, memory = {}, 0
     ways = {"tsan": (words, {"TSAN_OPTIONS": "report_bugs=0"}),
             "all": ([sys.executable, TOP / "python/shb-record", "-o", folder / "results",
                      *words], {"SHB_SEED": "1"})}
-    compiled = {**os.environ, "PYTHONPYCACHEPREFIX": str(folder / "compiled")}
-    compiled.pop("PYTHONDONTWRITEBYTECODE", None)
     for _ in range(runs):
         for way, (command, more) in ways.items():
-            taken, had = processor_seconds(command, A_PLACE, cwd=folder, env={**compiled, **more})
+            taken, had = processor_seconds(command, A_PLACE, cwd=folder, env={**environment, **more})
             least[way] = min(taken, least.get(way, 1e9))
             memory = max(memory, had) if way == "all" else memory
-    recorded = {**os.environ, "SHB_SEED": "1", "SHB_RECORD": str(record),
-                "LD_LIBRARY_PATH": str(TOP / "recorder/lib")}
-    subprocess.run([str(word) for word in words], env=recorded, stdout=subprocess.DEVNULL, check=True)
-    events = events_of(record)
-    tsan, all_ = least["tsan"], least["all"]
-    print(f"| {name} | {events:,} | {tsan:.3f} | {all_:.2f} | {all_ / tsan:.1f} | "
-          f"{tsan + EVENT * events:.2f} | {memory:,} |", flush=True)
+    return least["tsan"], least["all"], memory
+
+
+def phases(words, runs, folder, environment):
+    """The least seconds of the recording, of the making of the run's trace, and of the analyser on it; and
+    how many events it has."""
+    record, trace = folder / "app.rec", folder / "app.std"
+    recording = {**environment, "SHB_SEED": "1", "SHB_RECORD": str(record),
+                 "LD_LIBRARY_PATH": str(TOP / "recorder/lib")}
+    taken = [[], [], []]
+    for _ in range(runs):
+        record.unlink(missing_ok=True)
+        taken[0].append(processor_seconds(words, env=recording)[0])
+        with open(trace, "wb") as file:
+            taken[1].append(processor_seconds([TOP / "recorder/shb-std", "--list", record], out=file)[0])
+        taken[2].append(processor_seconds([SHB, "places", "--list", "--variables", trace])[0])
+    with open(trace, "rb") as file:
+        return *map(min, taken), sum(1 for _ in file)
+
+
+def print_row(name, words, runs, folder):
+    environment = {**os.environ, "PYTHONPYCACHEPREFIX": str(folder / "compiled")}
+    environment.pop("PYTHONDONTWRITEBYTECODE", None)
+    tsan, all_, memory = whole(words, runs, folder, environment)
+    recording, making, analysing, events = phases(words, runs, folder, environment)
+    seconds = recording, making, analysing, all_ - recording - making - analysing, all_
+    cells = " | ".join(f"{it:.2f}" for it in seconds)
+    print(f"| {name} | {events:,} | {tsan:.3f} | {cells} | {all_ / tsan:.1f} | {tsan + EVENT * events:.2f} "
+          f"| {memory:,} |", flush=True)
 
 
 def main(runs="3", *words):
-    print("| Program | Events | ThreadSanitizer | shb-record | Ratio | Aim | Memory, MB "
-          "|\n|---|---|---|---|---|---|---|")
+    heads = ("Program", "Events", "ThreadSanitizer", "Recording", "shb-std", "Analyser", "Rest", "Whole",
+             "Ratio", "Aim", "Memory, MB")
+    print(f"| {' | '.join(heads)} |\n{'|---' * len(heads)}|")
     for kind in ["--"] if words[:1] == ("--",) else words or ROUNDS:
         with tempfile.TemporaryDirectory() as name:
             folder = pathlib.Path(name)
