@@ -15,8 +15,7 @@ use Rattle.shb_lines.specs.text.Grammar.{NamedEvent}
 use Rattle.shb_lines.specs.text.Numbers.{IsEventOf, events_of}
 use Rattle.shb_lines.specs.text.Text.{LocatedEvent, lines_of, trace_of}
 use Rattle.shb_lines.specs.text.TraceData.{IsReadingOf, IsTraceOf, TraceData, tables_in}
-use Rattle.shb_discipline.specs.Faults.{HasDisciplineFault, IsFirstDisciplineFault}
-use Rattle.shb_discipline.specs.FirstFault.{BreaksDiscipline, HasAnyFault, IsFirstFault, HasNoFault, HasNoFaultBefore}
+use Rattle.shb_discipline.specs.Faults.{BreaksDiscipline, HasAnyFault, HasDisciplineFault, HasNoFault, HasNoFaultBefore, IsFirstDisciplineFault, IsFirstFault}
 use Rattle.shb_discipline.proofs.Faultless.{may_come, no_fault}
 use Rattle.shb_discipline.proofs.Lines.{line_bounds, lines_rise, located_from, trace_of-split}
 use Rattle.shb_discipline.proofs.Numbering.{front_trace, one_trace}

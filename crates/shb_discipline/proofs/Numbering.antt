@@ -12,11 +12,10 @@ use Rattle.shb_lines.specs.declared.event.Kind.{Kind}
 use Rattle.shb_lines.specs.declared.event.Kind.TheVariants as kinds
 use Rattle.shb_lines.specs.declared.event.Op.{Op}
 use Rattle.shb_lines.specs.declared.event.Op.TheVariants as ops
-use Rattle.shb_lines.specs.text.Tables.{with_names}
+use Rattle.shb_lines.specs.text.Numbering.{with_names}
 use Rattle.shb_lines.specs.text.Grammar.{NamedEvent}
-use Rattle.shb_lines.specs.text.Names.{table_of, with_name}
+use Rattle.shb_lines.specs.text.Text.{LocatedEvent, locks_among, table_of, threads_among, trace_of, variables_among, with_name}
 use Rattle.shb_lines.specs.text.Numbers.{IsEventOf, IsNumbered, IsOperation, Tables, events_of, op_for, tables_of_events}
-use Rattle.shb_lines.specs.text.Text.{LocatedEvent, locks_among, threads_among, trace_of, variables_among}
 use Rattle.shb_lines.specs.text.TraceData.{IsTraceOf, TraceData, tables_in}
 use Rattle.shb_lines.proofs.text.NameLemmas.{slice_get-with_names, with_name-at}
 use Rattle.shb_lines.proofs.text.Numbers.{IsDistinct-table_of, one_number}

@@ -9,8 +9,7 @@ use Rattle.shb_lines.specs.declared.fault.Fault.TheVariants as faults
 use Rattle.shb_lines.specs.declared.limits.Limits.{Limits}
 use Rattle.shb_lines.specs.events.Discipline.{IsDisciplined}
 use Rattle.shb_lines.specs.text.Faults.{number_of}
-use Rattle.shb_discipline.specs.Faults.{HasDisciplineFault, IsFirstDisciplineFault}
-use Rattle.shb_discipline.specs.FirstFault.{HasAnyFault, IsFirstFault}
+use Rattle.shb_discipline.specs.Faults.{HasAnyFault, HasDisciplineFault, IsFirstDisciplineFault, IsFirstFault}
 use Rattle.shb_discipline.proofs.Faultless.{no_fault}
 use Rattle.shb_lines.specs.Lowest.{IsLowest}
 

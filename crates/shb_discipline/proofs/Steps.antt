@@ -13,7 +13,7 @@ use Rattle.shb_lines.specs.Growing.{IsPut}
 use Rattle.shb_lines.specs.declared.event.Event.{Event}
 use Rattle.shb_lines.specs.declared.event.Op.{Op}
 use Rattle.shb_lines.specs.declared.event.Op.TheVariants.{Read, Write, Acquire, Release, Fork, Join}
-use Rattle.shb_lines.specs.events.Discipline.{acquires, anyone, is_acquire, is_fork, is_join, is_of, is_release, op_is_acquire, op_is_fork, op_is_join, op_is_release, other_than, only, releases, MayCome, MayDo}
+use Rattle.shb_lines.specs.events.Discipline.{acquires, is_acquire, is_fork, is_join, is_of, is_release, op_is_acquire, op_is_fork, op_is_join, op_is_release, other_than, only, releases, MayCome, MayDo}
 use Rattle.shb_discipline.specs.declared.state.LockState.{LockState}
 use Rattle.shb_discipline.specs.declared.state.State.{State}
 use Rattle.shb_discipline.specs.State.{AreFlags, AreLocks, IsGoingOn, IsLockAfter, IsStateAfter, Tells, free_lock}
@@ -135,8 +135,8 @@ module _ (past : List Event) (e : Event) where
 -- a depth counts acquires, so it is at most the number of events
 pub depth_few : (past : List Event) (l : ℕ) (lock : LockState) → IsLockAfter past l lock → lock.depth ≤ length past
 depth_few past l lock known =
-    let all = known anyone in
-    let most = count_by-le-length (is_acquire anyone l) past in
+    let all = known (λ u. true) in
+    let most = count_by-le-length (is_acquire (λ u. true) l) past in
     omega (arith, all, most)
 
 -- operations of other kinds

@@ -1,5 +1,5 @@
--- The faults of the discipline: which of them an event has, and the first of a trace.
-use Rattle.std.specs.Prelude.{◌≡◌, ◌≢◌, ℕ, ◌<◌, ◌≤◌, List, Option, Some, None, slice_get, count_by, take}
+-- The faults of the discipline: which of them an event has, and the first of a trace; and the first fault of a text, of its lines or of the discipline of their events.
+use Rattle.std.specs.Prelude.{◌≡◌, ◌≢◌, ℕ, ◌<◌, ◌≤◌, List, Option, Some, None, slice_get, count_by, take, ◌⊎◌, ◌+◌, length}
 use Rattle.shb_lines.specs.declared.event.Event.{Event}
 use Rattle.shb_lines.specs.declared.fault.LineFault.{LineFault}
 use Rattle.shb_lines.specs.declared.event.Op.TheVariants.{Acquire, Release, Fork, Join}
@@ -9,7 +9,10 @@ use Rattle.shb_lines.specs.declared.fault.Fault.TheVariants as faults
 use Rattle.shb_discipline.specs.declared.checking.CheckError.{CheckError}
 use Rattle.shb_discipline.specs.declared.checking.CheckError.TheVariants.{Undisciplined, Memory}
 use Rattle.shb_lines.specs.Lowest.{IsLowest}
-use Rattle.shb_lines.specs.text.Faults.{number_of}
+use Rattle.shb_lines.specs.text.Faults.{HasFault, number_of}
+use Rattle.shb_lines.specs.declared.limits.Limits.{Limits}
+use Rattle.shb_lines.specs.text.Text.{lines_of}
+use Rattle.shb_lines.specs.text.TraceData.{IsTraceOf, TraceData}
 
 -- the event has the fault, after these events
 abbrev pub HasDisciplineFault : List Event → Event → Fault → Type 0
@@ -41,3 +44,34 @@ IsFirstIfAny trace (Some found) = IsFirstDisciplineFault trace found.line found.
 abbrev pub IsRefusal : List Event → CheckError → Type 0
 IsRefusal trace (Undisciplined line fault) = IsFirstDisciplineFault trace line fault
 IsRefusal trace (Memory _) = Unit {0}
+
+-- in the trace of the lines up to line i, the event on line i has the fault after the events before it; lines are counted from 0 here
+pub record BreaksDiscipline (text : List ℕ) (i : ℕ) (fault : Fault) : Type 0 where
+  pub trace : TraceData
+  pub numbered : IsTraceOf (take (i + 1) (lines_of text)) trace
+  pub position : ℕ
+  pub event : Event
+  pub at : slice_get trace.events position ≡ Some event
+  pub on_line : event.line ≡ i + 1
+  pub has : HasDisciplineFault (take position trace.events) event fault
+
+module _ (limits : Limits) (text : List ℕ) where
+  -- the line has a line fault, or its event breaks the discipline
+  abbrev pub HasAnyFault : ℕ → Fault → Type 0
+  HasAnyFault i fault = HasFault limits text i fault ⊎ BreaksDiscipline text i fault
+
+  -- no line before line i has a fault
+  abbrev pub HasNoFaultBefore : ℕ → Type 0
+  HasNoFaultBefore i = (k : ℕ) (fault : Fault) → k < i → HasAnyFault k fault → ⊥
+
+  -- the least line with a fault, counted from 1, and its fault of lowest number
+  pub record IsFirstFault (line : ℕ) (fault : Fault) : Type 0 where
+    pub before : ℕ
+    pub line_is : line ≡ before + 1
+    pub within : before < length (lines_of text)
+    pub lowest : IsLowest number_of (HasAnyFault before) (Some fault)
+    pub earlier : HasNoFaultBefore before
+
+  -- no line has a fault
+  abbrev pub HasNoFault : Type 0
+  HasNoFault = HasNoFaultBefore (length (lines_of text))

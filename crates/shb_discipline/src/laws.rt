@@ -8,8 +8,7 @@ ghost use Rattle.shb_lines.specs.declared.fault.LineFault.{LineFault};
 ghost use Rattle.shb_lines.specs.events.Discipline.{IsDisciplined, MayCome};
 ghost use Rattle.shb_lines.specs.text.Text.{lines_of};
 ghost use Rattle.shb_lines.specs.text.TraceData.{IsReadingOf, IsTraceOf, TraceData};
-ghost use Rattle.shb_discipline.specs.Faults.{HasDisciplineFault, IsFirstDisciplineFault};
-ghost use Rattle.shb_discipline.specs.FirstFault.{IsFirstFault, HasNoFault};
+ghost use Rattle.shb_discipline.specs.Faults.{HasDisciplineFault, HasNoFault, IsFirstDisciplineFault, IsFirstFault};
 
 /// An event may come after others exactly where it has no fault of the discipline after them.
 pub fn event_without_fault_may_come()

@@ -3,7 +3,6 @@ pub mod Grammar
 pub mod Meaning
 pub mod Reading
 pub mod Limits
-pub mod Names
 pub mod Text
 pub mod Numbers
 pub mod Faults
@@ -15,8 +14,5 @@ pub mod Numbering
 pub mod Taken
 -- what the reader and the trace hold
 pub mod Hashing
-pub mod Tables
 pub mod Parsed
-pub mod KeptNames
-pub mod Parts
 pub mod Stored

@@ -1,7 +1,8 @@
 //! The line that begins at an offset of a text.
 ghost use Rattle.std.specs.Prelude.{◌≡◌, ◌<◌, ◌≤◌, ◌^◌, length};
 ghost use Rattle.std.specs.Str.Lines.{strip_carriage_return};
-ghost use Rattle.shb_lines.specs.text.Parsed.{line_from as line_from_start, part};
+ghost use Rattle.shb_lines.specs.text.Parsed.{line_from as line_from_start};
+ghost use Rattle.shb_lines.specs.text.Stored.{part};
 ghost use Rattle.shb_lines.specs.text.Reading.{Begins};
 
 use crate::grammar::before_byte;

@@ -7,7 +7,7 @@ ghost use Rattle.shb_io.specs.Devices.{IsCounted};
 ghost use Rattle.shb_lines.specs.declared.lines.TheConstants.{ROOM};
 ghost use Rattle.shb_lines.specs.text.Limits.{most_line};
 ghost use Rattle.shb_lines.specs.text.Lines.{Gives, IsNext, LinesState};
-ghost use Rattle.shb_lines.specs.text.Parsed.{part};
+ghost use Rattle.shb_lines.specs.text.Stored.{part};
 ghost use Rattle.shb_lines.specs.text.Reading.{Begins};
 
 use crate::grammar::before_byte;
@@ -45,7 +45,7 @@ pub struct Lines {
 impl Model for Lines {
     ghost use Rattle.std.specs.Prelude.{◌≡◌, ◌+◌, ◌≤◌, vec_len};
     ghost use Rattle.shb_lines.specs.declared.lines.TheConstants.{ROOM};
-    ghost use Rattle.shb_lines.specs.text.Parsed.{part};
+    ghost use Rattle.shb_lines.specs.text.Stored.{part};
     ghost use Rattle.shb_lines.specs.text.Lines.{LinesState};
 
     ghost Value = { LinesState };

@@ -3,9 +3,8 @@ ghost use Rattle.std.specs.Prelude.{◌≡◌, ◌+◌, ◌<◌, ◌≤◌, ◌^
 ghost use Rattle.std.specs.List.{list_any};
 ghost use Rattle.std.specs.Str.{bytes_eq};
 ghost use Rattle.std.specs.Str.Lines.{strip_carriage_return};
-ghost use Rattle.shb_lines.specs.text.Tables.{with_names, with_operand, with_thread};
+ghost use Rattle.shb_lines.specs.text.Numbering.{AreWide, HasLastThread, HasNumbered, IsBarOf, IsFound, IsKept, IsStepOf, IsWithin, tables_of, with_names, with_operand, with_thread};
 ghost use Rattle.shb_lines.specs.text.Grammar.{NamedEvent};
-ghost use Rattle.shb_lines.specs.text.Numbering.{AreWide, HasLastThread, HasNumbered, IsBarOf, IsFound, IsKept, IsStepOf, IsWithin, tables_of};
 ghost use Rattle.shb_lines.specs.text.Numbers.{IsOperation, op_for};
 ghost use Rattle.shb_lines.specs.text.Reading.{Begins, HasNoBar, HasNumberIn, IsNumberedIn, named};
 ghost use Rattle.shb_lines.specs.text.Text.{threads_among};

@@ -5,7 +5,7 @@ ghost use Rattle.std.specs.List.{list_any};
 ghost use Rattle.std.specs.Str.{bytes_eq};
 ghost use Rattle.shb_lines.specs.declared.hashing.HashKeys.{HashKeys};
 ghost use Rattle.shb_lines.specs.text.Hashing.{AreHashed, hash_in};
-ghost use Rattle.shb_lines.specs.text.Names.{with_name};
+ghost use Rattle.shb_lines.specs.text.Text.{with_name};
 
 use crate::growing::item_or;
 use crate::hashing::HashKeys;

@@ -5,8 +5,8 @@ ghost use Rattle.shb_lines.specs.text.Faults.{HasLineFault, number_of};
 ghost use Rattle.shb_lines.specs.text.Limits.{AreStandard};
 ghost use Rattle.shb_lines.specs.text.Numbering.{IsWithin};
 ghost use Rattle.shb_lines.specs.text.Numbers.{events_of};
-ghost use Rattle.shb_lines.specs.text.Parts.{parts_in};
-ghost use Rattle.shb_lines.specs.text.Parsed.{HasRead, lines_read, part};
+ghost use Rattle.shb_lines.specs.text.Parsed.{HasRead, lines_read, parts_in};
+ghost use Rattle.shb_lines.specs.text.Stored.{part};
 ghost use Rattle.shb_lines.specs.text.TraceData.{IsReading};
 ghost use Rattle.shb_lines.specs.Lowest.{IsLowest};
 

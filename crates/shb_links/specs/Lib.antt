@@ -1,4 +1,3 @@
 pub mod Latest
 pub mod Links
-pub mod Pass
 pub mod Sharing

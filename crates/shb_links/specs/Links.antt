@@ -1,11 +1,13 @@
--- What the tables of links hold.
+-- What the tables of links hold, and what the pass over a trace that fills them keeps.
 use Rattle.std.specs.Prelude.{◌≡◌, ℕ, ◌<◌, ◌≤◌, Bool, List, Option, Some, None, length, slice_index_or}
 use Rattle.shb_lines.specs.declared.event.Event.{Event}
 use Rattle.shb_lines.specs.events.Events.{thread_at}
 use Rattle.shb_lines.specs.events.Discipline.{local_time}
 use Rattle.shb_lines.specs.events.Order.{IsNumberOf}
-use Rattle.shb_links.specs.Latest.{ForksThread, Latest, OfThread}
+use Rattle.shb_links.specs.Latest.{ForksThread, IsLatestTable, Latest, OfThread}
 use Rattle.shb_links.specs.Sharing.{HasShared}
+use Rattle.shb_lines.specs.declared.event.Sizes.{Sizes}
+use Rattle.shb_links.specs.declared.pass.LocalTimes.{LocalTimes}
 
 -- a position that has the property, or None exactly where no position has it
 abbrev pub Exactly : (ℕ → Type 0) → Option ℕ → Type 0
@@ -27,3 +29,9 @@ pub record HasLinks (trace : List Event) (locals : List ℕ) (forks last : List 
   pub forked : (t : ℕ) → Exactly (ForksThread trace t) (slice_index_or forks t None)
   pub ended : (t : ℕ) → Latest (OfThread trace t) (length trace) (slice_index_or last t None)
   pub sharing : HasShared trace shared
+
+-- the local time of each event, and the last event and the fork of each thread
+pub record AreLocalTimes (trace : List Event) (n : ℕ) (sizes : Sizes) (found : LocalTimes) : Type 0 where
+  pub locals : HasLocals trace n found.locals.items
+  pub last : IsLatestTable (OfThread trace) n sizes.threads found.last.items
+  pub forks : IsLatestTable (ForksThread trace) n sizes.threads found.forks.items

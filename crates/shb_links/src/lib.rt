@@ -12,13 +12,11 @@
 //! [`Linked`] is a trace with its links, which the crates above hand on as one.
 #![tactic(auto)]
 
-mod latest;
 mod linked;
 mod links;
 mod pass;
-mod search;
 mod sharing;
 
-pub use latest::{empty_table, note_thread};
 pub use linked::Linked;
 pub use links::{Links, links_of};
+pub use pass::{empty_table, note_thread};

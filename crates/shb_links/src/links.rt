@@ -1,22 +1,59 @@
 //! The links of a trace: local times, predecessors, last writes and forks.
 
-ghost use Rattle.std.specs.Prelude.{◌≡◌, ℕ, ◌<◌, ◌↔◌, List, Some, IfOk, IsTrue, length};
+ghost use Rattle.std.specs.Prelude.{◌≡◌, ℕ, ◌<◌, ◌≤◌, ◌↔◌, List, Some, IfOk, IsTrue, length};
 ghost use Rattle.shb_lines.specs.declared.event.Event.{Event};
+ghost use Rattle.shb_lines.specs.declared.event.Op.TheVariants.{Write};
 ghost use Rattle.shb_lines.specs.events.Discipline.{local_time};
 ghost use Rattle.shb_lines.specs.events.Order.{IsPred, LastWrite};
 ghost use Rattle.shb_lines.specs.events.Events.{thread_at};
-ghost use Rattle.shb_links.specs.Latest.{Latest, OfThread, ForksThread};
+ghost use Rattle.shb_links.specs.Latest.{Latest, OfThread, ForksThread, WritesVariable};
 ghost use Rattle.shb_links.specs.Links.{Exactly, IsLocal, HasLinks};
 ghost use Rattle.shb_links.specs.Sharing.{IsShared};
 
 use crate::pass::LocalTimes;
-use crate::search::{latest_of_thread, latest_write};
 use crate::sharing::shared_variables;
 use shb_discipline::Disciplined;
 use shb_io::NoMemory;
-use shb_lines::Op;
+use shb_lines::{Events, Op};
 use std::alloc::Global;
 use std::marker::Model;
+
+/// The latest event of a thread before `end`, if there is one.
+fn latest_of_thread(events: &Events, thread: u32, end: u32) -> Option<u32>
+    requires { end ≤ length events.now }
+    ensures { Latest (OfThread events.now thread) end result }
+{
+    let mut e = end;
+    while e > 0 {
+        e -= 1;
+        if events.thread(e) == thread {
+            return Some(e);
+        }
+    }
+    None
+}
+
+/// Whether an operation is a write of this variable.
+fn is_write_of(op: Op, variable: u32) -> bool
+    ensures { IsTrue result ↔ (op ≡ Write variable) }
+{
+    matches!(op, Op::Write(x) if x == variable)
+}
+
+/// The latest write of a variable before `end`, if there is one.
+fn latest_write(events: &Events, variable: u32, end: u32) -> Option<u32>
+    requires { end ≤ length events.now }
+    ensures { Latest (WritesVariable events.now variable) end result }
+{
+    let mut e = end;
+    while e > 0 {
+        e -= 1;
+        if is_write_of(events.op(e), variable) {
+            return Some(e);
+        }
+    }
+    None
+}
 
 /// The links of a trace, and which of its variables are shared. Contracts see it as the list of the
 /// trace's events, since that list fixes both.

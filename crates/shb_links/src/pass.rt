@@ -1,17 +1,35 @@
 //! The pass over a trace that finds its links.
 
-ghost use Rattle.std.specs.Prelude.{◌≡◌, ℕ, ◌<◌, ◌+◌, Some, IfOk, OnOk, length};
+ghost use Rattle.std.specs.Prelude.{◌≡◌, ℕ, ◌<◌, ◌+◌, None, Some, IfOk, OnOk, length, replicate};
 ghost use Rattle.shb_lines.specs.events.Discipline.{local_time};
 ghost use Rattle.shb_lines.specs.events.Events.{thread_at};
+ghost use Rattle.shb_lines.specs.events.Sizes.{IsWithin};
 ghost use Rattle.shb_links.specs.Latest.{IsLatestTable, OfThread, ForksThread};
-ghost use Rattle.shb_links.specs.Links.{HasLocals};
-ghost use Rattle.shb_links.specs.Pass.{AreLocalTimes};
+ghost use Rattle.shb_links.specs.Links.{AreLocalTimes, HasLocals};
 
-use crate::latest::{empty_table, note_thread};
 use shb_discipline::Disciplined;
 use shb_io::NoMemory;
-use shb_lines::Op;
+use shb_lines::{Events, Op, Sizes};
 use std::alloc::Global;
+
+/// A table of `size` entries, in each of which nothing has come yet. `NoMemory` where the memory
+/// was refused.
+pub fn empty_table(alloc: Global, size: u32) -> Result<Vec<Option<u32>>, NoMemory>
+    ensures { IfOk result (λ table. table.items ≡ replicate size None) }
+{
+    Ok(vec![in alloc; None; size as usize]?)
+}
+
+/// Notes event `e` as the last of its thread, in a table of the last event of each thread before
+/// `e`.
+pub fn note_thread(events: &Events, sizes: Sizes, last: &mut Vec<Option<u32>>, e: u32)
+    requires in_range { e < length events.now }
+    requires within { IsWithin events.now sizes }
+    requires last { IsLatestTable (OfThread events.now) e sizes.threads last.old.items }
+    ensures { IsLatestTable (OfThread events.now) (e + 1) sizes.threads last.new.items }
+{
+    last[events.thread(e) as usize] = Some(e);
+}
 
 /// What the pass has found: the local time of each event, and the last event and the fork
 /// of each thread.

@@ -10,8 +10,7 @@ use Rattle.std.specs.List.Sorted.{IsBinarySearchResult, IsStrictlyIncreasing}
 use Rattle.std.specs.Ordering.{eq_by_cmp, nat_cmp}
 use Rattle.std.specs.FinSet as fin
 use Rattle.std.specs.Cmp.{nat_cmp_total, unsigned_tied}
-use Rattle.shb_numbers.specs.Far.{both, has_key}
-use Rattle.shb_numbers.specs.Numbers.{HasNone, IsLeast, Numbers}
+use Rattle.shb_numbers.specs.Numbers.{HasNone, IsLeast, Numbers, both, has_key}
 use Rattle.shb_numbers.proofs.SetLemmas.{eqb_other, more, same_numbers}
 
 pub contains_both : (near : Numbers) (far : List ℕ) (q : ℕ) → fin.contains (both near far) q ≡ (fin.contains near q || has_key far q)

@@ -3,8 +3,7 @@
 ghost use Rattle.std.specs.Prelude.{◌≡◌, ◌+◌, ◌<◌, ◌≤◌, ◌∷◌, ◌≢◌, [], ℕ, true, MatchOption, OnErr, OnOk, length, slice_index};
 ghost use Rattle.std.specs.FinSet as set;
 ghost use Rattle.std.specs.List.Sorted.{IsStrictlyIncreasing};
-ghost use Rattle.shb_numbers.specs.Far.{both, has_key};
-ghost use Rattle.shb_numbers.specs.Numbers.{HasNone, IsLeast, marked};
+ghost use Rattle.shb_numbers.specs.Numbers.{HasNone, IsLeast, both, has_key, marked};
 
 use crate::dense::Dense;
 use shb_io::NoMemory;
@@ -26,8 +25,7 @@ impl Model for LargeSet {
     ghost use Rattle.std.specs.Coded.{coded_ℕ};
     ghost use Rattle.std.specs.FinSet as set;
     ghost use Rattle.std.specs.List.Sorted.{IsStrictlyIncreasing};
-    ghost use Rattle.shb_numbers.specs.Far.{both};
-    ghost use Rattle.shb_numbers.specs.Numbers.{Numbers};
+    ghost use Rattle.shb_numbers.specs.Numbers.{Numbers, both};
 
     ghost Value = { Numbers };
 

@@ -1,9 +1,9 @@
 -- What is kept of the order of a trace, an event more.
 use Rattle.std.proofs.Common.{◌≡◌, ◌≢◌, ℕ, ◌+◌, ◌-◌, ◌<◌, ◌≤◌, ◌^◌, ◌⊎◌, inl, inr, Bool, true, false, List, [], ◌∷◌, ◌++◌, Some, length, get_or, take, arith, refl, sym, subst, ◌∙◌, ap, get_or-set_same, get_or-set_other}
 use Rattle.std.specs.Prelude.{◌↔◌, count_by, max, slice_get, replicate}
-use Rattle.shb_stamps.proofs.Words.{Acquire, AreAlike, AreClocks, AreMore, BelowPred, Covers, Event, Fork, HasMoved, HasRowAfter, IsDisciplined, IsFront, IsFrontBut, IsKnown, IsLatest, IsLatestBefore, IsLatestStamp, IsMovedRow, IsMovedStamp, IsNext, IsPut, IsRowFor, IsSource, IsStampOf, Join, KeepsWrite, KnowsStamp, Learns, MovesRow, OfThread, Op, Read, Release, ReleasesLock, ShbBelow, Stamp, Write, cases_Bool, cases_eq, cases_lt, count_gap, counted_before, empty_stamp, event_of_thread, from_event, get_or-replicate, get_or_past, get_or_push, is_of, is_of_thread, is_of_true, latest_below, length-append, length-replicate, length_push, local_time, nothing_new, of_event, of_none, of_thread, of_thread_at, of_thread_true, op_at, set, thread_at, thread_is}
+use Rattle.shb_stamps.proofs.Words.{Acquire, AreAlike, AreClocks, AreMore, BelowPred, Covers, Event, Fork, HasMoved, HasRowAfter, IsDisciplined, IsFrontBut, IsKnown, IsLatest, IsLatestBefore, IsLatestStamp, IsMovedRow, IsMovedStamp, IsNext, IsPut, IsRowFor, IsSource, IsStampOf, Join, KeepsWrite, KnowsStamp, Learns, MovesRow, OfThread, Op, Read, Release, ReleasesLock, ShbBelow, Stamp, Write, cases_Bool, cases_eq, cases_lt, count_gap, counted_before, empty_stamp, event_of_thread, from_event, get_or-replicate, get_or_past, get_or_push, is_of, is_of_thread, is_of_true, latest_below, length-append, length-replicate, length_push, local_time, nothing_new, of_event, of_none, of_thread, of_thread_at, of_thread_true, op_at, set, thread_at, thread_is}
 use Rattle.shb_stamps.specs.declared.clocks.AfterSource.{AfterSource}
-use Rattle.shb_stamps.proofs.Fronts.{front_whole, thread_in_range, thread_same, zero_entry}
+use Rattle.shb_stamps.proofs.Fronts.{IsFront, front_whole, thread_in_range, thread_same, zero_entry}
 use Rattle.shb_stamps.proofs.Locals.{time_at}
 use Rattle.shb_stamps.proofs.MovedLemmas.{latest_moved, row_moved}
 use Rattle.shb_stamps.proofs.Raised.{zeros_after}

@@ -1,8 +1,13 @@
 -- Clocks as fronts of threads: an own entry, and the number that an entry is.
 use Rattle.std.proofs.Common.{◌≡◌, ◌≢◌, ℕ, zero, suc, ◌+◌, ◌<◌, ◌≤◌, ◌⊎◌, inl, inr, true, false, List, Some, length, get_or, take, arith, subst, ap, sym, ◌∙◌, add-one, get_or-set_same, get_or-set_other}
 use Rattle.std.specs.Prelude.{◌↔◌, count_by, min, replicate, slice_get}
-use Rattle.shb_stamps.proofs.Words.{Event, IsFront, IsFrontBut, IsNumberOf, ShbBelow, cases_Bool, cases_eq, cases_lt, count_more_no, count_more_yes, event_of_thread, get_or-replicate, get_or_past, happens_before, here, is_of, is_of_thread, is_of_true, length-replicate, local_time, number_more_no, number_more_yes, number_none, number_same, path_forward, same_thread, set, slice_get_cases, slice_get_within, step, take_all, thread_at, thread_is}
+use Rattle.shb_stamps.proofs.Words.{Event, IsFrontBut, IsNumberOf, ShbBelow, cases_Bool, cases_eq, cases_lt, count_more_no, count_more_yes, event_of_thread, get_or-replicate, get_or_past, happens_before, here, is_of, is_of_thread, is_of_true, length-replicate, local_time, number_more_no, number_more_yes, number_none, number_same, path_forward, same_thread, set, slice_get_cases, slice_get_within, step, take_all, thread_at, thread_is}
 use Rattle.shb_stamps.proofs.Locals.{time_at, time_rises, time_order, time_within}
+
+-- the events with the property are those whose local time is no higher than their thread's entry
+pub record IsFront (trace : List Event) (P : ℕ → Type 0) (clock : List ℕ) : Type 0 where
+  pub within : (t : ℕ) → get_or clock t 0 ≤ count_by (is_of t) trace
+  pub exact : (t k : ℕ) → thread_at trace k ≡ Some t → (local_time trace t k ≤ get_or clock t 0) ↔ P k
 
 pub thread_in_range : (trace : List Event) (k t : ℕ) → thread_at trace k ≡ Some t → k < length trace
 thread_in_range trace k t of_k = let e = event_of_thread trace k t of_k in slice_get_within trace k e.0 e.1

@@ -1,9 +1,13 @@
 -- What is below an event comes from itself, from its predecessor, or from what the event learns of other threads.
 use Rattle.std.proofs.Common.{◌≡◌, ℕ, ◌<◌, ◌≤◌, ◌⊎◌, inl, inr, List, Some, length, arith, subst, sym, ◌∙◌, refl}
 use Rattle.std.specs.Prelude.{◌↔◌}
-use Rattle.shb_stamps.proofs.Words.{Acquire, BelowLastWrite, BelowPred, BelowRelease, BelowThread, Event, HbRule, IsDisciplined, IsLatestBefore, IsPred, Join, LastWrite, Learns, OfThread, Op, Read, ShbBelow, ShbEdge, StrictlyBelow, by_acquire, by_fork, by_join, by_read, cases_lt, fork_below_pred, forked, happens_before, here, in_thread, join_later, joined, lock_passed, op_at, pred_earlier, read_from, same_thread, step, thread_at, thread_below_pred}
+use Rattle.shb_stamps.proofs.Words.{Acquire, BelowLastWrite, BelowPred, BelowRelease, BelowThread, Event, HbRule, IsDisciplined, IsLatestBefore, IsPred, Join, LastWrite, Learns, OfThread, Op, Read, ShbBelow, ShbEdge, by_acquire, by_fork, by_join, by_read, cases_lt, fork_below_pred, forked, happens_before, here, in_thread, join_later, joined, lock_passed, op_at, pred_earlier, read_from, same_thread, step, thread_at, thread_below_pred}
 use Rattle.shb_lines.proofs.events.Decide.{last_write_unique}
 use Rattle.shb_stamps.proofs.Fronts.{thread_in_range}
+
+-- what is below e beside e itself
+abbrev pub StrictlyBelow : List Event → ℕ → ℕ → Type 0
+StrictlyBelow trace e k = BelowPred trace k e ⊎ Learns trace e k
 
 -- two paths in a row
 pub path_append : (trace : List Event) (a b c : ℕ) → ShbBelow trace a b → ShbBelow trace b c → ShbBelow trace a c

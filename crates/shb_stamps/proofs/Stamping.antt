@@ -1,10 +1,10 @@
 -- What an event learns of others, and the row and the stamps after it.
-use Rattle.shb_stamps.proofs.Words.{Acquire, AreMore, BelowPred, BelowRelease, Event, Fork, IsDisciplined, IsFrontBut, IsKnown, IsLatestBefore, IsLatestStamp, IsPred, IsRowFor, IsShared, IsSource, IsStampOf, KeepsWrite, Learns, MayDo, OfThread, Op, Read, Release, ReleasesLock, ShbBelow, Stamp, StrictlyBelow, Write, acquires, by_fork, cases_Bool, cases_eq, cases_lt, cases_order, common_steps, count_mono, counted_before, eqb-true, event_of_op, fork_allowed, fork_below_pred, fork_earlier, forked, from_event, get_or_append_left, get_or_push, happens_before, here, in_thread, is_acquire, is_acquire_parts, is_fork, is_fork_true, is_release, length_push, lock_passed, ne_eqb, nothing_new, of_event, of_none, only, op_at, op_is, pred_earlier, releases, same_thread, step, thread_at, thread_below_pred, thread_is, variable_of}
+use Rattle.shb_stamps.proofs.Words.{Acquire, AreMore, BelowPred, BelowRelease, Event, Fork, IsDisciplined, IsFrontBut, IsKnown, IsLatestBefore, IsLatestStamp, IsPred, IsRowFor, IsShared, IsSource, IsStampOf, KeepsWrite, Learns, MayDo, OfThread, Op, Read, Release, ReleasesLock, ShbBelow, Stamp, Write, acquires, by_fork, cases_Bool, cases_eq, cases_lt, cases_order, common_steps, count_mono, counted_before, eqb-true, event_of_op, fork_allowed, fork_below_pred, fork_earlier, forked, from_event, get_or_append_left, get_or_push, happens_before, here, in_thread, is_acquire, is_acquire_parts, is_fork, is_fork_true, is_release, length_push, lock_passed, ne_eqb, nothing_new, of_event, of_none, only, op_at, op_is, pred_earlier, releases, same_thread, step, thread_at, thread_below_pred, thread_is, variable_of}
 use Rattle.std.proofs.Common.{◌≡◌, length, ◌≢◌, ℕ, ◌+◌, ◌<◌, ◌≤◌, ◌⊎◌, inl, inr, Bool, true, false, List, [], ◌∷◌, ◌++◌, Option, Some, get_or, take, arith, subst, ap, sym, ◌∙◌, refl}
 use Rattle.std.specs.Prelude.{◌↔◌, ◌==◌, option_and_then, slice_get}
 use Rattle.shb_links.proofs.Balance.{HasHolder, IsPassing, balanced, disciplined_below, holder_after, some_counted}
 use Rattle.shb_stamps.proofs.Fronts.{front_but_same, thread_same}
-use Rattle.shb_stamps.proofs.Sources.{acquire_learns, learns_read, read_learns, path_append, edge_path, strictly_below_below, below_cases}
+use Rattle.shb_stamps.proofs.Sources.{StrictlyBelow, acquire_learns, learns_read, read_learns, path_append, edge_path, strictly_below_below, below_cases}
 
 -- rows that grow
 pub more_same : (rows : List (List ℕ)) → AreMore rows rows

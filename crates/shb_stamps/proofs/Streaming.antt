@@ -2,7 +2,7 @@
 use Rattle.std.proofs.Common.{◌≡◌, ◌≢◌, ℕ, ◌+◌, ◌<◌, ◌≤◌, ◌^◌, ◌⊎◌, inl, inr, Bool, true, false, List, [], ◌∷◌, ◌++◌, Some, length, get_or, take, arith, refl, sym, subst, ◌∙◌, ap}
 use Rattle.std.specs.Prelude.{◌-◌, cond, count_by, min, slice_get}
 use Rattle.shb_stamps.proofs.Words.{Event, IsBefore, IsBelowPredCount, IsDisciplined, IsNext, IsPut, Join, Op, cases_Bool, cases_eq, count_by-le-length, get_or_push, is_of, is_of_thread, is_of_true, local_time, op_is, slice_get-get_or, take-append-le, take_all, thread_at, thread_is}
-use Rattle.shb_stamps.specs.StreamClocks.{IsStreamed}
+use Rattle.shb_stamps.specs.Clocks.{IsStreamed}
 use Rattle.shb_stamps.specs.declared.stream_clocks.StreamClocks.{StreamClocks}
 use Rattle.shb_stamps.proofs.ClockSteps.{row_at}
 use Rattle.shb_stamps.proofs.Counting.{count_other, count_own}

@@ -22,15 +22,13 @@ pub use Rattle.shb_links.proofs.Owners.{apart, variable_known, variable_sized}
 pub use Rattle.shb_links.specs.Latest.{IsLatestBefore, OfThread, ReleasesLock}
 pub use Rattle.shb_links.specs.Sharing.{IsShared}
 pub use Rattle.shb_stamps.specs.Chunks.{AreChunks, AreInside, AreNumbers, IsInside, IsLonger, numbers_in, row_by, row_in, rows_in}
-pub use Rattle.shb_stamps.specs.Clocks.{AreClocks, Covers, HasRowAfter, IsBefore, IsNext, KeepsWrite}
-pub use Rattle.shb_stamps.specs.Fronts.{BelowLastWrite, BelowRelease, BelowThread, IsFront, IsFrontBut, Learns, StrictlyBelow, by_acquire, by_join, by_read}
-pub use Rattle.shb_stamps.specs.KeptRows.{AreListedRows}
+pub use Rattle.shb_stamps.specs.Clocks.{AreClocks, Covers, HasRowAfter, IsBefore, IsNext, KeepsWrite, SweepData}
+pub use Rattle.shb_stamps.specs.Fronts.{BelowLastWrite, BelowRelease, BelowThread, IsFrontBut, Learns, by_acquire, by_join, by_read}
+pub use Rattle.shb_stamps.specs.Listed.{AreListedRows}
 pub use Rattle.shb_stamps.specs.Moved.{AreAlike, AreKept, AreMoved, HasMoved, HasMovedOn, IsMovedRow, IsMovedStamp, IsNewNumber, MovesRow}
-pub use Rattle.shb_stamps.specs.Rows.{AreMore}
+pub use Rattle.shb_stamps.specs.Stamps.{AreMore, IsKnown, IsLatestStamp, IsRowFor, IsSource, IsStampOf, KnowsStamp, empty_stamp, from_event, nothing_new, of_event, of_none}
 pub use Rattle.shb_stamps.specs.Screen.{HasLatest, IsAccess, IsEpoch, IsMarked, IsPast, IsScreened, is_unknown}
 pub use Rattle.shb_stamps.specs.Settling.{AreOpen, AreScreened}
-pub use Rattle.shb_stamps.specs.Stamps.{IsKnown, IsLatestStamp, IsRowFor, IsSource, IsStampOf, KnowsStamp, empty_stamp, from_event, nothing_new, of_event, of_none}
-pub use Rattle.shb_stamps.specs.SweepData.{SweepData}
 pub use Rattle.shb_stamps.specs.declared.screen.Latest.{Latest}
 pub use Rattle.shb_stamps.specs.declared.stamp.Stamp.{Stamp}
 pub use Rattle.std.proofs.Math.ListN.{get_or-replicate, length-replicate, length-set, set}

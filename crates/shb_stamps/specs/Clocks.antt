@@ -1,4 +1,4 @@
--- What is kept of the order of a trace before one of its events.
+-- What is kept of the order of a trace before one of its events, or after those of a stream.
 use Rattle.std.specs.Prelude.{◌≡◌, ℕ, ◌+◌, ◌<◌, ◌≤◌, ◌⊎◌, ◌^◌, Bool, true, List, [], Some, length, max, slice_index_or, take, count_by}
 use Rattle.shb_lines.specs.Growing.{IsPut}
 use Rattle.shb_lines.specs.declared.event.Event.{Event}
@@ -8,11 +8,11 @@ use Rattle.shb_lines.specs.events.Discipline.{IsDisciplined, is_of, local_time}
 use Rattle.shb_lines.specs.events.Events.{op_at, thread_at}
 use Rattle.shb_links.specs.Latest.{ReleasesLock}
 use Rattle.shb_links.specs.Sharing.{IsShared}
-use Rattle.shb_stamps.specs.Rows.{AreMore}
-use Rattle.shb_stamps.specs.Stamps.{IsKnown, IsLatestStamp, IsRowFor, KnowsStamp, empty_stamp}
+use Rattle.shb_stamps.specs.Stamps.{AreMore, IsKnown, IsLatestStamp, IsRowFor, KnowsStamp, empty_stamp}
 use Rattle.shb_stamps.specs.declared.clocks.AfterSource.{AfterSource}
 use Rattle.shb_stamps.specs.declared.clocks.Clocks.{Clocks}
 use Rattle.shb_stamps.specs.declared.stamp.Stamp.{Stamp}
+use Rattle.shb_stamps.specs.declared.stream_clocks.StreamClocks.{StreamClocks}
 
 -- the event at k writes the variable x, of which each write is kept, or each if it is shared
 abbrev pub KeepsWrite : Bool → List Event → ℕ → ℕ → Type 0
@@ -57,3 +57,13 @@ pub record HasRowAfter (old new : List (List ℕ)) (thread time before : ℕ) (s
   pub knew : KnowsStamp (slice_index_or old before []) thread source → after.row ≡ before
   pub learned : (KnowsStamp (slice_index_or old before []) thread source → ⊥) → length old < 2 ^ 32 → source.row < length old → (after.row < length new) × IsJoined old thread time before source (slice_index_or new after.row [])
   pub renames : after.renames ≡ true → length old < 2 ^ 32 → (after.row < length new) × IsPut 0 source.thread source.time (slice_index_or old source.row []) (slice_index_or new after.row [])
+
+-- the clocks are those after these events, and so are the numbers of each thread's events
+pub record IsStreamed (past : List Event) (stream : StreamClocks) : Type 0 where
+  pub clocks : IsBefore past (length past) true stream.clocks
+  pub times : (t : ℕ) → slice_index_or stream.times.items t 0 ≡ count_by (is_of t) past
+
+-- the trace, and the number of the next event
+pub record SweepData : Type 0 where
+  pub trace : List Event
+  pub next : ℕ

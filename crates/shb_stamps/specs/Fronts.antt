@@ -1,17 +1,12 @@
 -- Clocks: for each thread, how many of its events, from its first on, have a property.
-use Rattle.std.specs.Prelude.{◌≡◌, ◌≢◌, ℕ, ◌<◌, ◌≤◌, ◌↔◌, ◌⊎◌, List, Some, slice_index_or, count_by}
+use Rattle.std.specs.Prelude.{◌≡◌, ◌≢◌, ℕ, ◌<◌, ◌≤◌, ◌↔◌, List, Some, slice_index_or, count_by}
 use Rattle.shb_lines.specs.declared.event.Event.{Event}
 use Rattle.shb_lines.specs.declared.event.Op.TheVariants.{Acquire, Release, Join}
 use Rattle.shb_lines.specs.events.Events.{thread_at, op_at}
 use Rattle.shb_lines.specs.events.Discipline.{is_of, local_time}
-use Rattle.shb_lines.specs.events.Order.{LastWrite, ShbBelow, BelowPred}
+use Rattle.shb_lines.specs.events.Order.{LastWrite, ShbBelow}
 
--- the events with the property are those whose local time is no higher than their thread's entry
-pub record IsFront (trace : List Event) (P : ℕ → Type 0) (clock : List ℕ) : Type 0 where
-  pub within : (t : ℕ) → slice_index_or clock t 0 ≤ count_by (is_of t) trace
-  pub exact : (t k : ℕ) → thread_at trace k ≡ Some t → (local_time trace t k ≤ slice_index_or clock t 0) ↔ P k
-
--- the entries of all threads but u are those of a clock of the events with the property
+-- for all threads but u, the events with the property are those whose local time is no higher than their thread's entry
 pub record IsFrontBut (trace : List Event) (u : ℕ) (P : ℕ → Type 0) (clock : List ℕ) : Type 0 where
   pub within : (t : ℕ) → t ≢ u → slice_index_or clock t 0 ≤ count_by (is_of t) trace
   pub exact : (t k : ℕ) → thread_at trace k ≡ Some t → t ≢ u → (local_time trace t k ≤ slice_index_or clock t 0) ↔ P k
@@ -41,7 +36,3 @@ pub data Learns (trace : List Event) (e k : ℕ) : Type 0 where
   by_acquire : (lock : ℕ) → op_at trace e ≡ Some (Acquire lock) → BelowRelease trace lock e k → Learns trace e k
   by_join : (thread : ℕ) → op_at trace e ≡ Some (Join thread) → BelowThread trace thread e k → Learns trace e k
   by_read : BelowLastWrite trace e k → Learns trace e k
-
--- what is below e beside e itself
-abbrev pub StrictlyBelow : List Event → ℕ → ℕ → Type 0
-StrictlyBelow trace e k = BelowPred trace k e ⊎ Learns trace e k

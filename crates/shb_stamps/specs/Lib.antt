@@ -2,13 +2,9 @@ pub mod Accesses
 pub mod Chunks
 pub mod Clocks
 pub mod Fronts
-pub mod KeptRows
 pub mod Listed
 pub mod Moved
 pub mod Open
-pub mod Rows
 pub mod Screen
 pub mod Settling
 pub mod Stamps
-pub mod StreamClocks
-pub mod SweepData

@@ -1,10 +1,11 @@
--- Listed events, which an order is asked about.
-use Rattle.std.specs.Prelude.{◌≡◌, ℕ, ◌<◌, ◌==◌, Bool, List, Some, length, slice_index_or}
+-- Listed events, which an order is asked about, and the rows that are kept for them.
+use Rattle.std.specs.Prelude.{◌≡◌, ℕ, ◌<◌, ◌==◌, Bool, List, Some, length, slice_index_or, ◌≤◌}
 use Rattle.std.specs.List.{list_any}
 use Rattle.shb_lines.specs.declared.event.Event.{Event}
 use Rattle.shb_lines.specs.events.Events.{thread_at}
 use Rattle.shb_lines.specs.events.Order.{BelowPred}
 use Rattle.shb_stamps.specs.Stamps.{IsRowFor}
+use Rattle.shb_stamps.specs.declared.listed_rows.KeptRows.{KeptRows}
 
 -- whether an event is in the list
 abbrev pub is_listed : List ℕ → ℕ → Bool
@@ -19,3 +20,8 @@ pub record ListedTrace : Type 0 where
 pub record HasListedRows (trace : List Event) (rows : List (List ℕ)) (events : List ℕ) (n : ℕ) (before : List ℕ) : Type 0 where
   pub as_many : length before ≡ n
   pub each : (i e t : ℕ) → i < n → slice_index_or events i 0 ≡ e → thread_at trace e ≡ Some t → IsRowFor trace rows t (λ k. BelowPred trace k e) (slice_index_or before i 0)
+
+-- what is kept after the first n of the listed events
+pub record AreListedRows (trace : List Event) (events : List ℕ) (n : ℕ) (kept : KeptRows) : Type 0 where
+  pub few : length kept.rows ≤ n
+  pub before : HasListedRows trace kept.rows events n kept.before.items

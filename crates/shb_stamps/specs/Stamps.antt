@@ -9,6 +9,11 @@ use Rattle.shb_links.specs.Latest.{IsLatestBefore}
 use Rattle.shb_stamps.specs.Fronts.{Learns, IsFrontBut}
 use Rattle.shb_stamps.specs.declared.stamp.Stamp.{Stamp}
 
+-- rows that stay as they are, with more after them
+pub record AreMore (rows more : List (List ℕ)) : Type 0 where
+  pub as_long : length rows ≤ length more
+  pub same : (i : ℕ) → i < length rows → slice_index_or more i [] ≡ slice_index_or rows i []
+
 -- but for the entry of thread t, the row of this number is the clock of the events with the property
 pub record IsRowFor (trace : List Event) (rows : List (List ℕ)) (t : ℕ) (P : ℕ → Type 0) (row : ℕ) : Type 0 where
   pub in_range : row < length rows

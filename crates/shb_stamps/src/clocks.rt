@@ -18,7 +18,7 @@ ghost use Rattle.shb_stamps.specs.Clocks.{Covers, HasRowAfter, IsBefore, IsNext,
 ghost use Rattle.shb_stamps.specs.Stamps.{IsSource, KnowsStamp, empty_stamp};
 
 use crate::clock::zeros;
-use crate::compact::compacted;
+use crate::moving::compacted;
 use crate::row_list::RowList;
 use crate::stamp::{Stamp, is_joined, no_stamps};
 use shb_io::NoMemory;

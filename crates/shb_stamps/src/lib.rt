@@ -11,7 +11,7 @@
 //! predecessor and, before a write, so is the newest read since, and before that the read before it. The others are open.
 //!
 //! A vector clock of a property of events has for each thread the number of its events, from the
-//! first on, that have the property (`IsFront`). Clocks are rows of one memory, and a row says
+//! first on, that have the property (`IsFrontBut`). Clocks are rows of one memory, and a row says
 //! nothing of its own thread: the event's local time stands in when it is read. So an event at which its
 //! thread learns nothing new shares the row before. A row of more than 512 entries may begin with chunks of 64, and
 //! rows share the chunks in which they are equal (`row_list`): what threads that are joined one after the other
@@ -24,7 +24,7 @@
 //! join asks whether its thread's row has the stamp's local time already, and adds a row only where it hasn't. A fork
 //! adds the forked thread's first row. Where all that a thread knew is below a write that it reads, its new row is
 //! the write's clock. The stamp of the write names that row from then on, so other readers take over its
-//! number, and no row is made for them. Rows are never changed. When there are many, `compact` moves those
+//! number, and no row is made for them. Rows are never changed. When there are many, `moving` moves those
 //! that these tables name to new ones, and the memory of the old ones is used the next time; `moving` says
 //! which these are and what numbers they get. `KeptRows`
 //! copies the row before each listed event to rows that stay, unless it is the last one that was copied for its
@@ -33,12 +33,9 @@
 
 mod clock;
 mod clocks;
-mod compact;
-mod kept_rows;
 pub mod laws;
 mod listed_rows;
 mod moving;
-mod open;
 mod order;
 mod ordered;
 mod row;
@@ -51,10 +48,9 @@ mod sweep;
 mod trace_clocks;
 
 pub use listed_rows::{ListedRows, at_events};
-pub use open::is_open;
 pub use order::Order;
 pub use ordered::Ordered;
 pub use screen::{Epoch, Latest};
-pub use settling::{any_open, open_variables};
+pub use settling::{any_open, is_open, open_variables};
 pub use stream_clocks::StreamClocks;
 pub use sweep::Sweep;

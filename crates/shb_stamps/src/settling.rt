@@ -5,7 +5,6 @@ ghost use Rattle.shb_stamps.specs.Open.{is_open as is_open_in};
 ghost use Rattle.shb_stamps.specs.Settling.{AreOpen, AreScreened};
 ghost use Rattle.shb_stamps.specs.Screen.{is_unknown};
 
-use crate::open::is_open;
 use crate::ordered::Ordered;
 use crate::screen::Latest;
 use crate::sweep::Sweep;
@@ -13,6 +12,16 @@ use shb_discipline::Disciplined;
 use shb_io::NoMemory;
 use shb_links::{Linked, Links};
 use std::alloc::Global;
+
+/// Whether a variable is open by these flags: it is unless its flag is false.
+pub fn is_open(flags: &[bool], x: u32) -> bool
+    ensures { result ≡ is_open_in flags.now x }
+{
+    match flags.get(x as usize) {
+        Some(flag) => *flag,
+        None => true,
+    }
+}
 
 /// Takes the event at e into what is kept of its variable, if it accesses one.
 fn screen(ordered: &Ordered<'_, Sweep<'_>>, table: &mut Vec<Latest>, e: u32)

@@ -5,9 +5,8 @@ ghost use Rattle.shb_lines.specs.declared.event.Event.{Event};
 ghost use Rattle.shb_lines.specs.declared.event.Op.TheVariants.{Join, Write};
 ghost use Rattle.shb_lines.specs.events.Discipline.{IsDisciplined};
 ghost use Rattle.shb_lines.specs.events.Order.{IsBelowPredCount};
-ghost use Rattle.shb_stamps.specs.Clocks.{IsBefore, IsNext};
+ghost use Rattle.shb_stamps.specs.Clocks.{IsBefore, IsNext, IsStreamed};
 ghost use Rattle.shb_stamps.specs.Screen.{IsAccess, IsAfterAll, IsScreened};
-ghost use Rattle.shb_stamps.specs.StreamClocks.{IsStreamed};
 
 use crate::clocks::Clocks;
 use crate::screen::{Epoch, Latest, after_access};

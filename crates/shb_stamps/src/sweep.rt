@@ -2,9 +2,8 @@
 
 ghost use Rattle.std.specs.Prelude.{◌≡◌, ◌+◌, ◌<◌, ◌==◌, ℕ, IfOk, OnOk, Some, false, length};
 ghost use Rattle.shb_lines.specs.events.Race.{variable_at};
-ghost use Rattle.shb_stamps.specs.Clocks.{IsBefore};
+ghost use Rattle.shb_stamps.specs.Clocks.{IsBefore, SweepData};
 ghost use Rattle.shb_stamps.specs.Screen.{IsScreened};
-ghost use Rattle.shb_stamps.specs.SweepData.{SweepData};
 
 use crate::clocks::Clocks;
 use crate::order::Order;

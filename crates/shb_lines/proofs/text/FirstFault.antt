@@ -7,7 +7,7 @@ use Rattle.shb_lines.specs.declared.limits.Limits.{Limits}
 use Rattle.shb_lines.specs.text.Grammar.{NamedEvent}
 use Rattle.shb_lines.specs.text.Faults.{HasFault, HasLineFault, HasNoLineFaultBefore, PassesLimit, line_at, number_of}
 use Rattle.shb_lines.specs.text.Numbers.{events_of}
-use Rattle.shb_lines.specs.text.Parsed.{part}
+use Rattle.shb_lines.specs.text.Stored.{part}
 use Rattle.shb_lines.specs.text.Text.{lines_of}
 use Rattle.shb_lines.proofs.text.Scanning.{IsNext, IsStart}
 use Rattle.shb_lines.specs.Lowest.{IsLowest}

@@ -13,9 +13,8 @@ use Rattle.shb_lines.specs.text.Limits.{AreStandard, most_events}
 use Rattle.shb_lines.specs.text.Meaning.{meaning}
 use Rattle.shb_lines.specs.text.Numbering.{GivesStep, HasNumbered, IsWithin, event_of, tables_of, with_step}
 use Rattle.shb_lines.specs.text.Numbers.{IsEventOf, events_of}
-use Rattle.shb_lines.specs.text.Parsed.{HasRead, line_from, trace_in}
+use Rattle.shb_lines.specs.text.Parsed.{AreParts, HasRead, line_from, parts_in, trace_in}
 use Rattle.shb_lines.specs.text.Text.{IsLineText, LocatedEvent, trace_of}
-use Rattle.shb_lines.specs.text.Parts.{AreParts, parts_in}
 use Rattle.shb_lines.specs.text.TraceData.{IsReading, IsTraceOf, TraceData, tables_in}
 use Rattle.shb_lines.proofs.text.Numbers.{well_formed}
 use Rattle.shb_lines.proofs.text.TraceLemmas.{trace_of-none, trace_of-some}

@@ -2,8 +2,7 @@
 use Rattle.std.proofs.Common.{◌≡◌, ◌+◌, ◌-◌, ◌≤◌, ◌<◌, ℕ, List, [], ◌∷◌, ◌++◌, length, take, drop, zero, suc, get_or, Some, slice_get, refl, sym, ap, subst, ◌∙◌, arith, append_assoc, length-append, length-drop}
 use Rattle.std.proofs.Math.Seq.{drop-append_seam}
 use Rattle.std.proofs.lemmas.List.{drop-append-le, take-append-le, take_all}
-use Rattle.shb_lines.specs.text.KeptNames.{AreEnds, names_between}
-use Rattle.shb_lines.specs.text.KeptNames.{part}
+use Rattle.shb_lines.specs.text.Stored.{AreEnds, names_between, part}
 
 ends_within : (len start : ℕ) (ends : List ℕ) → AreEnds len start ends → start ≤ len
 ends_within len start [] h = omega (arith, h)

@@ -3,7 +3,7 @@ use Rattle.std.proofs.Common.{◌≡◌, ◌⊎◌, inl, inr, ◌+◌, ◌≤◌
 use Rattle.std.specs.List.{AllZip}
 use Rattle.shb_lines.specs.declared.event.Kind.{Kind}
 use Rattle.shb_lines.specs.declared.event.Kind.TheVariants as kinds
-use Rattle.shb_lines.specs.text.Tables.{with_names}
+use Rattle.shb_lines.specs.text.Numbering.{with_names}
 use Rattle.shb_lines.specs.text.Text.{threads_among}
 use Rattle.shb_lines.proofs.text.NameLemmas.{length-with_names_le}
 

@@ -9,7 +9,7 @@ use Rattle.std.specs.List.{position_or_len}
 use Rattle.shb_io.specs.Devices.{IsGivenCounted}
 use Rattle.shb_lines.specs.text.Grammar.{Lacks}
 use Rattle.shb_lines.specs.text.Lines.{BeginsLong, Gives, Moves}
-use Rattle.shb_lines.specs.text.Parsed.{part}
+use Rattle.shb_lines.specs.text.Stored.{part}
 use Rattle.shb_lines.specs.text.Taking.{HasGiven}
 use Rattle.shb_lines.proofs.text.TakingLemmas.{Consumes-then}
 

@@ -6,8 +6,8 @@ use Rattle.std.specs.List.{list_any, position_or_len}
 use Rattle.std.specs.Str.{bytes_eq}
 use Rattle.std.proofs.lemmas.Slice.Eq.{bytes_eq-Decides}
 use Rattle.std.proofs.Math.Numerals.{one-add}
-use Rattle.shb_lines.specs.text.Tables.{with_names}
-use Rattle.shb_lines.specs.text.Names.{with_name}
+use Rattle.shb_lines.specs.text.Numbering.{with_names}
+use Rattle.shb_lines.specs.text.Text.{with_name}
 
 -- names with the same bytes are one
 bytes_eq-same : (xs ys : List ℕ) → bytes_eq xs ys ≡ true → xs ≡ ys

@@ -4,9 +4,8 @@ use Rattle.shb_lines.specs.declared.event.Kind.{Kind}
 use Rattle.shb_lines.specs.declared.event.Kind.TheVariants as kinds
 use Rattle.shb_lines.specs.declared.limits.Limits.{Limits}
 use Rattle.shb_lines.specs.declared.numbering.Numbering.{Numbering}
-use Rattle.shb_lines.specs.text.Tables.{with_names, with_operand, with_thread}
+use Rattle.shb_lines.specs.text.Numbering.{HasLastThread, HasNumbered, IsWithin, tables_of, with_names, with_operand, with_thread}
 use Rattle.shb_lines.specs.text.Grammar.{NamedEvent}
-use Rattle.shb_lines.specs.text.Numbering.{HasLastThread, HasNumbered, IsWithin, tables_of}
 use Rattle.shb_lines.specs.text.Numbers.{Tables, tables_of_events}
 use Rattle.shb_lines.specs.text.Text.{locks_among, threads_among, threads_of, variables_among}
 use Rattle.shb_lines.proofs.text.NameLemmas.{length-with_names_le}

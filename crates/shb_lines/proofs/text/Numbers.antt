@@ -12,13 +12,12 @@ use Rattle.shb_lines.specs.declared.event.Kind.{Kind}
 use Rattle.shb_lines.specs.declared.event.Op.{Op}
 use Rattle.shb_lines.specs.declared.event.Op.TheVariants as ops
 use Rattle.shb_lines.specs.events.Events.{op_at, variable_of}
-use Rattle.shb_lines.specs.text.Tables.{with_names}
+use Rattle.shb_lines.specs.text.Numbering.{with_names}
 use Rattle.shb_lines.specs.text.Limits.{most_events}
-use Rattle.shb_lines.specs.text.Names.{table_of, with_name}
+use Rattle.shb_lines.specs.text.Text.{IsLineText, LocatedEvent, locks_among, table_of, threads_among, trace_of, variables_among, with_name}
 use Rattle.shb_lines.specs.text.Numbers.{IsEventOf, IsOperation, Tables, events_of}
 use Rattle.shb_lines.specs.events.Race.{variable_at}
 use Rattle.shb_lines.specs.events.Sizes.{IsEventWithin, IsOpWithin, IsWithin}
-use Rattle.shb_lines.specs.text.Text.{IsLineText, LocatedEvent, locks_among, threads_among, trace_of, variables_among}
 use Rattle.shb_lines.specs.text.TraceData.{IsTraceOf, IsWellFormed, TraceData, tables_in}
 use Rattle.shb_lines.proofs.text.NameLemmas.{length-with_name_le, slice_get-with_names, with_name-at}
 

@@ -2,8 +2,8 @@
 use Rattle.std.proofs.Common.{◌≡◌, ◌⊎◌, ℕ, List, Some, Result, Ok, Err, IfOk, inl, inr, ap, refl, slice_get, subst, sym}
 use Rattle.shb_lines.specs.declared.event.Kind.{Kind}
 use Rattle.shb_lines.specs.declared.event.Kind.TheVariants as kinds
-use Rattle.shb_lines.specs.text.Tables.{with_operand}
-use Rattle.shb_lines.specs.text.Names.{with_name}
+use Rattle.shb_lines.specs.text.Numbering.{with_operand}
+use Rattle.shb_lines.specs.text.Text.{with_name}
 use Rattle.shb_lines.specs.text.Numbers.{IsOperation, Tables, op_for}
 
 -- what numbers a name in its table changes the table of its kind, and gives the operation its number

@@ -10,7 +10,7 @@ use Rattle.std.proofs.lemmas.Slice.Eq.{bytes_eq-Decides}
 use Rattle.indexmap.specs.IndexSet.{insert_key}
 use Rattle.shb_lines.specs.declared.hashing.HashKeys.{HashKeys}
 use Rattle.shb_lines.specs.text.Hashing.{AreHashed, hash_in}
-use Rattle.shb_lines.specs.text.Names.{with_name}
+use Rattle.shb_lines.specs.text.Text.{with_name}
 
 -- a name that is new is put last
 pub with_name-new : (names : List (List ℕ)) (name : List ℕ) → list_any (bytes_eq name) names ≡ false → with_name names name ≡ names ++ name ∷ []

@@ -5,7 +5,7 @@ use Rattle.shb_lines.specs.declared.fault.Fault.{Fault}
 use Rattle.shb_lines.specs.declared.limits.Limits.{Limits}
 use Rattle.shb_lines.specs.text.Faults.{HasFault, HasLineFault, number_of}
 use Rattle.shb_lines.specs.text.Numbers.{events_of}
-use Rattle.shb_lines.specs.text.Parsed.{part}
+use Rattle.shb_lines.specs.text.Stored.{part}
 use Rattle.shb_lines.specs.text.Text.{lines_of}
 use Rattle.shb_lines.proofs.text.FirstFault.{lowest_at}
 use Rattle.shb_lines.proofs.text.Scanning.{IsStart, start_next}

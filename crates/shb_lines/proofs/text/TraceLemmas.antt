@@ -10,12 +10,11 @@ use Rattle.shb_lines.specs.declared.event.Event.{Event}
 use Rattle.shb_lines.specs.declared.event.Kind.{Kind}
 use Rattle.shb_lines.specs.declared.event.Op.{Op}
 use Rattle.shb_lines.specs.declared.event.Op.TheVariants as ops
-use Rattle.shb_lines.specs.text.Tables.{with_names, with_operand, with_thread}
+use Rattle.shb_lines.specs.text.Numbering.{with_names, with_operand, with_thread}
 use Rattle.shb_lines.specs.text.Grammar.{NamedEvent}
 use Rattle.shb_lines.specs.text.Meaning.{meaning}
-use Rattle.shb_lines.specs.text.Names.{table_of, with_name}
+use Rattle.shb_lines.specs.text.Text.{LocatedEvent, event_on, located, locks_among, table_of, threads_among, trace_of, variables_among, with_name}
 use Rattle.shb_lines.specs.text.Numbers.{IsEventOf, IsOperation, Tables, tables_of_events}
-use Rattle.shb_lines.specs.text.Text.{LocatedEvent, event_on, located, locks_among, threads_among, trace_of, variables_among}
 use Rattle.shb_lines.proofs.text.NameLemmas.{slice_get-with_name, slice_get-with_names}
 
 pub enumerate_from-push : {X : Type 0} (n : ℕ) (xs : List X) (x : X) → enumerate_from n (xs ++ x ∷ []) ≡ enumerate_from n xs ++ (n + length xs, x) ∷ []

@@ -5,10 +5,9 @@ use Rattle.std.specs.Str.Lines.{strip_carriage_return}
 use Rattle.std.proofs.lemmas.List.{map-append}
 use Rattle.std.proofs.Math.Seq.{get_or-append_seam}
 use Rattle.shb_lines.specs.declared.numbering.Step.{Step}
-use Rattle.shb_lines.specs.text.Tables.{with_operand, with_thread}
+use Rattle.shb_lines.specs.text.Numbering.{IsStepOf, event_of, with_operand, with_step, with_thread}
 use Rattle.shb_lines.specs.text.Grammar.{Meaning, NamedEvent}
 use Rattle.shb_lines.specs.text.Meaning.{meaning}
-use Rattle.shb_lines.specs.text.Numbering.{IsStepOf, event_of, with_step}
 use Rattle.shb_lines.specs.text.Numbers.{IsEventOf, Tables, events_of, tables_of_events}
 use Rattle.shb_lines.specs.text.Text.{LocatedEvent, located, trace_of}
 use Rattle.shb_lines.specs.text.TraceData.{IsTraceOf, TraceData, tables_in}

@@ -5,9 +5,6 @@ use Rattle.shb_lines.specs.declared.event.Op.{Op}
 use Rattle.shb_lines.specs.declared.event.Op.TheVariants.{Acquire, Release, Fork, Join}
 
 -- sets of threads, as tests
-abbrev pub anyone : ℕ → Bool
-anyone u = true
-
 abbrev pub other_than : ℕ → ℕ → Bool
 other_than t u = not (t == u)
 

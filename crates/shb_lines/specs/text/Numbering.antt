@@ -1,5 +1,5 @@
 -- What is found in a line after some events, where the names are owned.
-use Rattle.std.specs.Prelude.{◌≡◌, ◌+◌, ◌<◌, ◌≤◌, ◌^◌, ℕ, List, [], ◌∷◌, ◌++◌, length, slice_get, Option, None, Some, Result, Ok, Err, IfSome}
+use Rattle.std.specs.Prelude.{◌≡◌, ◌+◌, ◌<◌, ◌≤◌, ◌^◌, ℕ, List, [], ◌∷◌, ◌++◌, length, slice_get, Option, None, Some, Result, Ok, Err, IfSome, fold}
 use Rattle.std.specs.Str.Lines.{strip_carriage_return}
 use Rattle.shb_lines.specs.declared.event.Event.{Event}
 use Rattle.shb_lines.specs.declared.fault.Fault.{Fault}
@@ -14,6 +14,22 @@ use Rattle.shb_lines.specs.text.Meaning.{meaning}
 use Rattle.shb_lines.specs.text.Numbers.{IsNumber, IsOperation, Tables, tables_of_events}
 use Rattle.shb_lines.specs.text.TraceData.{TraceData}
 use Rattle.shb_lines.specs.Lowest.{IsLowest}
+use Rattle.shb_lines.specs.declared.event.Kind.{Kind}
+use Rattle.shb_lines.specs.text.Text.{locks_among, threads_among, variables_among, with_name}
+
+-- a table of names with some more, and all tables with the names of an event
+abbrev pub with_names : List (List ℕ) → List (List ℕ) → List (List ℕ)
+with_names table names = fold with_name table names
+
+abbrev pub with_thread : Tables → List ℕ → Tables
+with_thread tables name = record { threads = with_name tables.threads name; locks = tables.locks; variables = tables.variables }
+
+abbrev pub with_operand : Tables → Kind → List ℕ → Tables
+with_operand tables kind name = record {
+  threads = with_names tables.threads (threads_among kind name);
+  locks = with_names tables.locks (locks_among kind name);
+  variables = with_names tables.variables (variables_among kind name);
+}
 
 -- the greatest limits of a text that isn't kept: the limit of its bytes says nothing
 pub record AreWide (limits : Limits) : Type 0 where

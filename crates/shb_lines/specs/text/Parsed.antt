@@ -1,14 +1,13 @@
--- What a reader holds of the lines that it has read.
-use Rattle.std.specs.Prelude.{◌==◌, ◌≤◌, ℕ, List, [], ◌∷◌, ◌++◌, length, map, drop, Option, None, Some}
+-- What a reader holds of the lines that it has read, and the trace that this stands for.
+use Rattle.std.specs.Prelude.{◌==◌, ◌≤◌, ℕ, List, [], ◌∷◌, ◌++◌, length, map, drop, Option, None, Some, ◌≡◌, ◌<◌, ◌^◌}
 use Rattle.std.specs.List.{AllByRecursion, before_first}
 use Rattle.std.specs.Str.Lines.{strip_carriage_return}
 use Rattle.shb_lines.specs.declared.fault.Fault.{Fault}
 use Rattle.shb_lines.specs.declared.reader.Reader.{Reader}
 use Rattle.shb_lines.specs.declared.trace.Parts.{Parts}
-pub use Rattle.shb_lines.specs.text.KeptNames.{part}
 use Rattle.shb_lines.specs.text.Numbering.{HasNumbered}
 use Rattle.shb_lines.specs.text.Numbers.{events_of}
-use Rattle.shb_lines.specs.text.TraceData.{IsTraceOf, TraceData}
+use Rattle.shb_lines.specs.text.TraceData.{IsTraceOf, IsWellFormed, TraceData}
 
 -- the line that begins at an offset of the text, without the carriage return at its end
 abbrev pub line_from : List ℕ → ℕ → List ℕ
@@ -42,3 +41,12 @@ pub record HasRead (text : List ℕ) (reader : Reader) (lines : List (List ℕ))
 abbrev pub lines_read : List (List ℕ) → Option Fault → List ℕ → List (List ℕ)
 lines_read lines None line = lines ++ line ∷ []
 lines_read lines (Some fault) line = lines
+
+-- each event has a line, which begins within the text, names can be counted, and the trace is well-formed
+pub record AreParts (text : List ℕ) (parts : Parts) : Type 0 where
+  pub a_line_each : length parts.starts.items ≡ length parts.events
+  pub starts : AllByRecursion (λ start. start ≤ length text) parts.starts.items
+  pub threads : length parts.threads < 2 ^ 32
+  pub locks : length parts.locks < 2 ^ 32
+  pub variables : length parts.variables < 2 ^ 32
+  pub well_formed : IsWellFormed (trace_at text parts)

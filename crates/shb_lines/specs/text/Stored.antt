@@ -1,5 +1,5 @@
--- The events of a trace, as they are stored: without the numbers of their lines.
-use Rattle.std.specs.Prelude.{ℕ, ◌+◌, List, cond, fold, leb, map}
+-- The events and names of a trace, as they are stored: events without the numbers of their lines, names one after the other in one memory.
+use Rattle.std.specs.Prelude.{ℕ, ◌+◌, List, cond, fold, leb, map, ◌≡◌, ◌-◌, ◌≤◌, [], ◌∷◌, drop, take}
 use Rattle.std.specs.List.{enumerate_from}
 use Rattle.shb_lines.specs.declared.event.Event.{Event}
 use Rattle.shb_lines.specs.declared.stored.Skipped.{Skipped}
@@ -16,3 +16,17 @@ with_line skipped (k, stored) = record { thread = stored.thread; op = op_for sto
 
 abbrev pub events_in : List Skipped → List StoredEvent → List Event
 events_in skipped stored = map (with_line skipped) (enumerate_from 0 stored)
+
+-- the bytes of the text from start to end
+abbrev pub part : List ℕ → ℕ → ℕ → List ℕ
+part text start end = take (end - start) (drop start text)
+
+-- the names between an offset and the first of these ends, and between each end and the next
+abbrev pub names_between : List ℕ → ℕ → List ℕ → List (List ℕ)
+names_between bytes start [] = []
+names_between bytes start (end ∷ ends) = part bytes start end ∷ names_between bytes end ends
+
+-- no end is before the one before it, and the last one is that of all bytes
+abbrev pub AreEnds : ℕ → ℕ → List ℕ → Type 0
+AreEnds len start [] = start ≡ len
+AreEnds len start (end ∷ ends) = (start ≤ end) × AreEnds len end ends

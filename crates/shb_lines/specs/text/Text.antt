@@ -1,5 +1,5 @@
--- The lines of a text and the events that they give.
-use Rattle.std.specs.Prelude.{◌≡◌, ◌≤◌, ◌==◌, ℕ, true, not, List, [], ◌∷◌, length, Option, None, Some, Ok}
+-- The lines of a text, the events that they give, and the names of these, numbered in order of first appearance.
+use Rattle.std.specs.Prelude.{◌≡◌, ◌≤◌, ◌==◌, ℕ, true, not, List, [], ◌∷◌, length, Option, None, Some, Ok, fold, if◌then◌else◌}
 use Rattle.std.specs.List.{enumerate_from, filter_map, flat_map, list_all, slice_split}
 use Rattle.std.specs.Str.Lines.{strip_carriage_return}
 use Rattle.shb_lines.specs.declared.event.Kind.{Kind}
@@ -7,7 +7,16 @@ use Rattle.shb_lines.specs.declared.event.Kind.TheVariants as kinds
 use Rattle.shb_lines.specs.text.Grammar.{Meaning, NamedEvent}
 use Rattle.shb_lines.specs.text.Limits.{most_line}
 use Rattle.shb_lines.specs.text.Meaning.{meaning}
-use Rattle.shb_lines.specs.text.Names.{table_of}
+use Rattle.std.specs.Str.{bytes_eq}
+
+-- the names, and after them one that is new
+abbrev pub with_name : List (List ℕ) → List ℕ → List (List ℕ)
+with_name [] name = name ∷ []
+with_name (known ∷ names) name = if bytes_eq name known then known ∷ names else known ∷ with_name names name
+
+-- the different names among these, in order of first appearance: the index of a name is its number
+abbrev pub table_of : List (List ℕ) → List (List ℕ)
+table_of names = fold with_name [] names
 
 -- the lines: the parts between line feeds. A last part with no byte gives nothing, as a line does
 abbrev pub lines_of : List ℕ → List (List ℕ)

@@ -1,4 +1,4 @@
-use Rattle.shb_links.specs.Pass.{AreLocalTimes}
+use Rattle.shb_links.specs.Links.{AreLocalTimes}
 use Rattle.shb_links.proofs.links.links_of.Given as goal
 
 abbrev pub invariant-loop-e : goal.invariant-loop-e

@@ -1,7 +1,7 @@
 use Rattle.std.proofs.Common.{◌≡◌, ℕ, ◌<◌, true}
 use Rattle.std.specs.FinSet as fin
 use Rattle.std.specs.Prelude.{slice_index}
-use Rattle.shb_numbers.specs.Far.{both}
+use Rattle.shb_numbers.specs.Numbers.{both}
 use Rattle.shb_numbers.proofs.large_set.bring_near.Given as goal
 
 abbrev pub invariant-loop-at : goal.invariant-loop-at

@@ -1,6 +1,6 @@
 use Rattle.std.proofs.Common.{◌∙◌, ap, length, refl}
 use Rattle.std.proofs.lemmas.List.Edits.{length-insert}
-use Rattle.shb_numbers.specs.Far.{has_key}
+use Rattle.shb_numbers.specs.Numbers.{has_key}
 use Rattle.shb_numbers.proofs.FarLemmas.{others_stay, place_of, rises_with, search_found}
 use Rattle.shb_numbers.proofs.large_set.insert_far.Goals as goal
 

@@ -1,7 +1,7 @@
 use Rattle.std.proofs.Common.{◌∙◌, ap}
 use Rattle.std.proofs.lemmas.Result.{on_err_weaker, on_ok_weaker}
 use Rattle.std.specs.FinSet as fin
-use Rattle.shb_numbers.specs.Far.{both}
+use Rattle.shb_numbers.specs.Numbers.{both}
 use Rattle.shb_numbers.proofs.FarLemmas.{far_more, near_more, on_both}
 use Rattle.shb_numbers.proofs.large_set.insert_past.Goals as goal
 

@@ -1,7 +1,6 @@
 use Rattle.std.proofs.Common.{◌∙◌, ap, arith, subst, sym}
 use Rattle.std.specs.FinSet as fin
-use Rattle.shb_numbers.specs.Far.{has_key}
-use Rattle.shb_numbers.specs.Numbers.{HasNone, IsLeast, Numbers}
+use Rattle.shb_numbers.specs.Numbers.{HasNone, IsLeast, Numbers, has_key}
 use Rattle.shb_numbers.proofs.FarLemmas.{least_near, none_near, passed_near}
 use Rattle.shb_numbers.proofs.large_set.near_not_in.Goals as goal
 

@@ -1,7 +1,6 @@
 use Rattle.std.proofs.Common.{◌-◌, ◌≤◌}
 use Rattle.std.specs.FinSet as fin
-use Rattle.shb_numbers.specs.Far.{both}
-use Rattle.shb_numbers.specs.Numbers.{HasNone}
+use Rattle.shb_numbers.specs.Numbers.{HasNone, both}
 use Rattle.shb_numbers.proofs.large_set.near_not_in.Given as goal
 
 abbrev pub invariant-loop-at : goal.invariant-loop-at

@@ -1,6 +1,6 @@
 -- A name stands between the end of the one before it and its own.
 use Rattle.std.proofs.Common.{ℕ, List, Some, get_or, slice_get, ap, arith, length, sym, ◌∙◌, ◌∷◌}
-use Rattle.shb_lines.specs.text.KeptNames.{part}
+use Rattle.shb_lines.specs.text.Stored.{part}
 use Rattle.shb_lines.proofs.text.KeptNames.{ends_order, length-names_between, name_between}
 use Rattle.shb_lines.proofs.names.Names.name.Goals as goal
 

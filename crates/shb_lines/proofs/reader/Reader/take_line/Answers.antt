@@ -4,7 +4,7 @@ use Rattle.std.specs.List.{position_or_len}
 use Rattle.std.specs.Str.Lines.{strip_carriage_return}
 use Rattle.shb_lines.specs.text.Numbering.{IsFound, IsKept, event_of}
 use Rattle.shb_lines.specs.text.Numbers.{events_of}
-use Rattle.shb_lines.specs.text.Parsed.{part}
+use Rattle.shb_lines.specs.text.Stored.{part}
 use Rattle.shb_lines.proofs.text.Held.{read_none, read_some}
 use Rattle.shb_lines.proofs.reader.Reader.take_line.Goals as goal
 

@@ -2,7 +2,8 @@
 use Rattle.std.proofs.Common.{◌<◌, ◌≤◌, None, Some, arith, length, refl, subst, sym, take}
 use Rattle.shb_lines.specs.declared.fault.Fault.TheVariants as faults
 use Rattle.shb_lines.specs.text.Faults.{HasLineFault, number_of}
-use Rattle.shb_lines.specs.text.Parsed.{HasRead, lines_read, part}
+use Rattle.shb_lines.specs.text.Parsed.{HasRead, lines_read}
+use Rattle.shb_lines.specs.text.Stored.{part}
 use Rattle.shb_lines.specs.text.Numbers.{events_of}
 use Rattle.shb_lines.specs.text.Text.{lines_of}
 use Rattle.shb_lines.proofs.text.FirstFault.{HasNoLineFaultBefore-more}

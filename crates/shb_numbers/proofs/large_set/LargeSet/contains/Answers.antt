@@ -1,6 +1,6 @@
 use Rattle.std.proofs.Common.{◌||◌, ◌∙◌, ap, sym}
 use Rattle.std.specs.FinSet as fin
-use Rattle.shb_numbers.specs.Far.{has_key}
+use Rattle.shb_numbers.specs.Numbers.{has_key}
 use Rattle.shb_numbers.proofs.FarLemmas.{contains_both}
 use Rattle.shb_numbers.proofs.large_set.LargeSet.contains.Goals as goal
 

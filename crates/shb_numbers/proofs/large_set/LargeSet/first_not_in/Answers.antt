@@ -1,7 +1,6 @@
 use Rattle.std.proofs.Common.{MatchOption, ◌∙◌, ap, subst, sym}
 use Rattle.std.specs.FinSet as fin
-use Rattle.shb_numbers.specs.Far.{both}
-use Rattle.shb_numbers.specs.Numbers.{HasNone, IsLeast, Numbers}
+use Rattle.shb_numbers.specs.Numbers.{HasNone, IsLeast, Numbers, both}
 use Rattle.shb_numbers.proofs.FarLemmas.{only_near}
 use Rattle.shb_numbers.proofs.large_set.LargeSet.first_not_in.Goals as goal
 

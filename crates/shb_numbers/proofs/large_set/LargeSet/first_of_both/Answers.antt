@@ -2,8 +2,7 @@ use Rattle.std.proofs.Common.{ℕ, MatchOption, ◌∙◌, ap, subst, sym}
 use Rattle.std.specs.FinSet as fin
 use Rattle.std.specs.Ordering.{nat_cmp}
 use Rattle.std.specs.Prelude.{Option}
-use Rattle.shb_numbers.specs.Far.{both}
-use Rattle.shb_numbers.specs.Numbers.{HasNone, IsLeast, Numbers}
+use Rattle.shb_numbers.specs.Numbers.{HasNone, IsLeast, Numbers, both}
 use Rattle.shb_numbers.proofs.FarLemmas.{least_of_both}
 use Rattle.shb_numbers.proofs.large_set.LargeSet.first_of_both.Goals as goal
 

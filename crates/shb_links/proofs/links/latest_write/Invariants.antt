@@ -1,7 +1,7 @@
 -- No event from e on and before the end writes the variable.
 use Rattle.std.proofs.Common.{◌≤◌, ◌<◌, ℕ}
 use Rattle.shb_links.proofs.Words.{WritesVariable}
-use Rattle.shb_links.proofs.search.latest_write.Given as goal
+use Rattle.shb_links.proofs.links.latest_write.Given as goal
 
 abbrev pub invariant-loop-e : goal.invariant-loop-e
 invariant-loop-e l = (l.e ≤ l.end) × ((m : ℕ) → l.e ≤ m → m < l.end → ¬ WritesVariable l.events l.variable m)

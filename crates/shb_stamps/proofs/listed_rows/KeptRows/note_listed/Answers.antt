@@ -1,7 +1,7 @@
 use Rattle.shb_stamps.proofs.Words.{BelowPred, IsRowFor, common_steps, thread_at}
 use Rattle.std.proofs.Common.{◌≡◌, ℕ, Some, arith, subst, sym}
 use Rattle.shb_stamps.proofs.ListedLemmas.{rising_above, listed_more, listed_push}
-use Rattle.shb_stamps.proofs.kept_rows.KeptRows.note_listed.Goals as goal
+use Rattle.shb_stamps.proofs.listed_rows.KeptRows.note_listed.Goals as goal
 
 pub keep-requires-clause-few : goal.keep-requires-clause-few
 keep-requires-clause-few c = grind (arith, common_steps, rising_above, c.requires.rising, c.requires.in_range, c.requires.kept.few, c.requires.of_trace)

@@ -2,7 +2,7 @@ use Rattle.std.proofs.Common.{ℕ, List, [], get_or, length, ap, arith, ◌∙�
 use Rattle.shb_stamps.proofs.Words.{BelowPred, Event, length_push}
 use Rattle.shb_stamps.proofs.ListedLemmas.{row_copied}
 use Rattle.shb_stamps.proofs.Stamping.{more_push, more_same, row_pushed}
-use Rattle.shb_stamps.proofs.kept_rows.keep.Goals as goal
+use Rattle.shb_stamps.proofs.listed_rows.keep.Goals as goal
 
 pub returns-then-same-clause-more : goal.returns-then-same-clause-more
 returns-then-same-clause-more c = more_same c.args.rows.now
