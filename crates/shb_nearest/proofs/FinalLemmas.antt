@@ -9,7 +9,7 @@ use Rattle.std.proofs.lemmas.Cmp.{nat_cmp_total, on_total, then_total}
 use Rattle.std.proofs.lemmas.Grind.{common_steps}
 use Rattle.std.proofs.lemmas.Map.Keys.{IsDistinct-IsPermutation, IsDistinct-from_apart, apart_from_distinct}
 use Rattle.std.proofs.lemmas.Map.Views.{Contains-from_lookup, lookup-from_Contains}
-use Rattle.shb_nearest.specs.Sorted.{IsInOrder, NotAfter}
+use Rattle.shb_nearest.specs.Found.{IsInOrder, NotAfter}
 use Rattle.shb_nearest.proofs.Members.{member_map, member_of_map}
 use Rattle.shb_nearest.proofs.ClassLemmas.{location_of_access}
 use Rattle.shb_nearest.proofs.PlaceTable.{one_place, place_same, place_with}

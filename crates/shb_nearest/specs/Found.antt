@@ -1,5 +1,5 @@
--- Accesses and races that are found in a stream.
-use Rattle.std.specs.Prelude.{◌≡◌, ℕ, Bool, true, false, List, Option, None, Some, option_and_then, slice_get, if◌then◌else◌}
+-- Accesses and races that are found in a stream, and their order.
+use Rattle.std.specs.Prelude.{◌≡◌, ℕ, Bool, true, false, List, Option, None, Some, option_and_then, slice_get, if◌then◌else◌, ◌⊎◌, ◌<◌, ◌≤◌, AllPairs}
 use Rattle.shb_lines.specs.declared.event.Event.{Event}
 use Rattle.shb_lines.specs.declared.event.Op.{Op}
 use Rattle.shb_lines.specs.declared.event.Op.TheVariants.{Read, Write}
@@ -8,6 +8,7 @@ use Rattle.shb_lines.specs.events.Race.{variable_at}
 use Rattle.shb_nearest.specs.declared.access.Spot.{Spot}
 use Rattle.shb_nearest.specs.declared.access.FoundAccess.{FoundAccess}
 use Rattle.shb_nearest.specs.declared.access.FoundRace.{FoundRace}
+use Rattle.std.specs.List.Sorted.{IsPermutation}
 
 -- the location of the event at a position, by its number
 abbrev pub location_in : List Spot → ℕ → Option ℕ
@@ -36,3 +37,12 @@ pub record IsFoundRace (trace : List Event) (spots : List Spot) (race : FoundRac
 -- the two positions of a race
 abbrev pub ends_of : FoundRace → ℕ × ℕ
 ends_of race = (race.first.event, race.second.event)
+
+-- one race doesn't stand after another: by the later event, then by the earlier
+abbrev pub NotAfter : FoundRace → FoundRace → Type 0
+NotAfter a b = (a.second.event < b.second.event) ⊎ ((a.second.event ≡ b.second.event) × (a.first.event ≤ b.first.event))
+
+-- the same races, in order
+pub record IsInOrder (races sorted : List FoundRace) : Type 0 where
+  pub permutation : IsPermutation races sorted
+  pub in_order : AllPairs NotAfter sorted

@@ -7,4 +7,3 @@ pub mod Rivals
 pub mod Places
 pub mod Sites
 pub mod Searched
-pub mod Sorted

@@ -3,7 +3,7 @@ use Rattle.std.specs.Prelude.{◌≡◌, ◌≢◌, ◌⊎◌, ◌+◌, ◌<◌,
 use Rattle.shb_lines.specs.declared.event.Event.{Event}
 use Rattle.shb_lines.specs.events.Discipline.{IsDisciplined}
 use Rattle.shb_lines.specs.events.Race.{Race}
-use Rattle.shb_stamps.specs.StreamClocks.{IsStreamed}
+use Rattle.shb_stamps.specs.Clocks.{IsStreamed}
 use Rattle.shb_stamps.specs.declared.stream_clocks.StreamClocks.{StreamClocks}
 use Rattle.shb_nearest.specs.Found.{IsFoundAccess, location_in}
 use Rattle.shb_nearest.specs.Groups.{access_of}

@@ -6,7 +6,7 @@ use Rattle.shb_lines.specs.events.Discipline.{IsDisciplined}
 use Rattle.shb_lines.specs.events.Race.{variable_at}
 use Rattle.shb_lines.specs.events.Tests.{is_write}
 use Rattle.shb_stamps.specs.Screen.{IsScreened}
-use Rattle.shb_stamps.specs.StreamClocks.{IsStreamed}
+use Rattle.shb_stamps.specs.Clocks.{IsStreamed}
 use Rattle.shb_stamps.specs.declared.stream_clocks.StreamClocks.{StreamClocks}
 use Rattle.shb_nearest.specs.Classes.{AreClasses}
 use Rattle.shb_nearest.specs.Found.{IsFoundRace, ends_of, site_in}

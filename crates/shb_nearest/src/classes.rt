@@ -33,10 +33,6 @@ impl Drop for Classes {
 
 impl Classes {
     /// No class.
-    ///
-    /// # Errors
-    ///
-    /// `NoMemory` where there were no random numbers for the table.
     pub fn new<R: RandomSource>(rt: &R, alloc: Global) -> Result<Classes, NoMemory>
         ensures { IfOk result (λ classes. classes.newest.entries ≡ []) }
     {
@@ -63,10 +59,6 @@ impl Classes {
     }
 
     /// Puts an access of a class, and answers the one that the table had of it, or 0 where it had none.
-    ///
-    /// # Errors
-    ///
-    /// `NoMemory` where a growth was refused.
     pub fn put(&mut self, class: Class, event: u32) -> Result<u32, NoMemory>
         ensures before { IfOk result (λ before. before ≡ unwrap_or (newest_in self.old.newest.entries class) 0) }
         ensures updates { IfOk result (λ before. HasPut self.old.newest.entries self.new.newest.entries class event) }

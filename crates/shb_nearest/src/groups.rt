@@ -191,10 +191,6 @@ impl Group {
     }
 
     /// Keeps an access in place of the last one at its location, where there is one, and answers that one, or 0.
-    ///
-    /// # Errors
-    ///
-    /// `NoMemory` where a growth was refused.
     fn replace(&mut self, access: KeptAccess) -> Result<u32, NoMemory>
         ensures kept { OnOk result (HasKept access self.old self.new) }
         ensures before { IfOk result (IsAt self.old.kept.items access.spot.location) }
@@ -209,10 +205,6 @@ impl Group {
     }
 
     /// Keeps an access, and forgets others where there are too many.
-    ///
-    /// # Errors
-    ///
-    /// `NoMemory` where a growth was refused.
     fn keep(
         &mut self,
         alloc: Global,
@@ -290,10 +282,6 @@ impl Groups {
     }
 
     /// Keeps in mind that places are known of some accesses with the one that was taken last, at this location.
-    ///
-    /// # Errors
-    ///
-    /// `NoMemory` where a growth was refused.
     pub fn learn(&mut self, second: u32, rivals: &[FoundAccess]) -> Result<(), NoMemory>
         ensures each { OnOk result (self.new.each.items ≡ self.old.each.items) }
         ensures own { OnOk result (self.new.variable ≡ self.old.variable) }
@@ -307,10 +295,6 @@ impl Groups {
 
     /// Notes an access that the group at an index is to keep, and answers its site, or any number. When many came, sites are
     /// made.
-    ///
-    /// # Errors
-    ///
-    /// `NoMemory` where a growth was refused.
     fn note(
         &mut self,
         alloc: Global,
@@ -340,10 +324,6 @@ impl Groups {
 
     /// The index of the group of a thread and a kind, which is made if there is none. `indices` has those of groups that aren't
     /// among the first few, by class without a location.
-    ///
-    /// # Errors
-    ///
-    /// `NoMemory` where a growth was refused.
     fn group_at(
         &mut self,
         alloc: Global,
@@ -379,10 +359,6 @@ impl Groups {
 
     /// Takes an access in, and answers an earlier access of its class, or 0: the last one, where its group keeps few;
     /// else the one that the table of classes had, which takes this access.
-    ///
-    /// # Errors
-    ///
-    /// `NoMemory` where a growth was refused.
     pub fn take(
         &mut self,
         alloc: Global,

@@ -88,10 +88,6 @@ fn is_in(
 /// Whether one of these accesses of a variable is enough instead of an earlier one, which comes next to them if none is. The
 /// table has the indices of those that came here and aren't among the first few, by location and kind, with the thread and
 /// without.
-///
-/// # Errors
-///
-/// `NoMemory` where a growth was refused.
 pub fn is_again(accesses: &[Late], indices: &mut Classes, late: Late) -> Result<bool, NoMemory>
     ensures { IfOk result (λ again. again ≡ true → IsInsteadOne accesses.now late) }
 {

@@ -167,10 +167,6 @@ impl Log {
 
     /// Lets an access wait behind the newest of its variable, which is at this place, or there is none, and answers its own
     /// place. Older ones are looked at where this thread had the last access: else they are seldom in the cache.
-    ///
-    /// # Errors
-    ///
-    /// `NoMemory` where a growth was refused.
     #[inline(always)]
     pub fn put_off(&mut self, newest: u32, thread: u32, late: Late) -> Result<u32, NoMemory>
         ensures own { (trace : List Event) (spots : List SpotData) (x : ℕ) → AreWaiting trace spots x late.event self.old.entries.items newest → IsLate trace spots x late
@@ -190,10 +186,6 @@ impl Log {
     }
 
     /// Gathers the accesses of a variable, in their order. The newest is at this place.
-    ///
-    /// # Errors
-    ///
-    /// `NoMemory` where a growth was refused.
     pub fn gather(&mut self, alloc: Global, newest: u32) -> Result<(), NoMemory>
         ensures same { self.new.entries.items ≡ self.old.entries.items }
         ensures gathered { (trace : List Event) (spots : List SpotData) (x n : ℕ) → AreWaiting trace spots x n self.old.entries.items newest
@@ -207,10 +199,6 @@ impl Log {
     }
 
     /// Forgets accesses instead of which a later one is enough, if there are many.
-    ///
-    /// # Errors
-    ///
-    /// `NoMemory` where a growth was refused.
     pub fn make_room(
         &mut self,
         alloc: Global,

@@ -62,10 +62,6 @@ impl Opened {
     }
 
     /// The index of the groups of a variable, if that is below 2^32. They are made of its accesses where these wait.
-    ///
-    /// # Errors
-    ///
-    /// `NoMemory` where a growth was refused.
     pub fn open(
         &mut self,
         alloc: Global,
@@ -97,10 +93,6 @@ impl Opened {
     }
 
     /// Takes an access into the groups of its variable, and answers an earlier access of its class, or 0.
-    ///
-    /// # Errors
-    ///
-    /// `NoMemory` where a growth was refused.
     pub fn take(
         &mut self,
         alloc: Global,

@@ -47,10 +47,6 @@ impl Drop for Places {
 
 impl Places {
     /// No place.
-    ///
-    /// # Errors
-    ///
-    /// `NoMemory` where there were no random numbers for the table.
     pub fn new<R: RandomSource>(rt: &R, alloc: Global) -> Result<Places, NoMemory>
         ensures { IfOk result (λ places. places.races.entries ≡ []) }
     {
@@ -73,10 +69,6 @@ impl Places {
     }
 
     /// Takes a race where it is nearer than what is known of its place.
-    ///
-    /// # Errors
-    ///
-    /// `NoMemory` where a growth was refused.
     fn offer(&mut self, by_variable: bool, race: FoundRace) -> Result<(), NoMemory>
         ensures { OnOk result (self.new.races.entries ≡ offered by_variable self.old.races.entries race) }
     {
@@ -91,10 +83,6 @@ impl Places {
 
     /// Takes the races of an access of a variable with earlier ones, where they are nearer than what is known of their
     /// places.
-    ///
-    /// # Errors
-    ///
-    /// `NoMemory` where a growth was refused.
     pub fn offer_all(
         &mut self,
         by_variable: bool,
@@ -125,10 +113,6 @@ impl Places {
     }
 
     /// The races, one of each place.
-    ///
-    /// # Errors
-    ///
-    /// `NoMemory` where memory was refused.
     pub fn to_races(&self, alloc: Global) -> Result<Vec<FoundRace>, NoMemory>
         ensures { IfOk result (λ races. races.items ≡ map (λ e. e.1) self.now.races.entries) }
     {

@@ -211,10 +211,6 @@ impl Rivals {
     /// Finds accesses that race with the next one: those that the groups of its variable, which have it already, keep from
     /// the event `since` on, but for those whose place is known. There are none where by the run before it its thread alone
     /// accessed the variable since then.
-    ///
-    /// # Errors
-    ///
-    /// `NoMemory` where a growth was refused.
     pub fn find(
         &mut self,
         clocks: &StreamClocks,

@@ -4,7 +4,7 @@ ghost use Rattle.std.specs.Prelude.{◌≡◌, ◌+◌, ◌++◌, ◌∷◌, [],
 ghost use Rattle.shb_lines.specs.declared.event.Event.{Event};
 ghost use Rattle.shb_lines.specs.events.Discipline.{IsDisciplined};
 ghost use Rattle.shb_nearest.specs.Searched.{AreNearestRaces, AreTables, HasRoom, HasSearched, IsNextEvent};
-ghost use Rattle.shb_nearest.specs.Sorted.{IsInOrder};
+ghost use Rattle.shb_nearest.specs.Found.{IsInOrder};
 ghost use Rattle.shb_nearest.specs.declared.access.Spot.{Spot as SpotData};
 
 use crate::access::{FoundAccess, FoundRace, Spot};

@@ -181,10 +181,6 @@ impl Sites {
     }
 
     /// Notes what groups keep.
-    ///
-    /// # Errors
-    ///
-    /// `NoMemory` where a growth was refused.
     pub fn note_all(&mut self, alloc: Global, groups: &[Group]) -> Result<(), NoMemory>
         ensures noted { OnOk result (AreAllNoted self.new groups.now) }
         ensures paired { (by_variable : Bool) (x : ℕ) (entries : List PlaceEntry) → ArePaired by_variable x entries self.old.all.items → OnOk result (ArePaired by_variable x entries self.new.all.items) }
@@ -301,10 +297,6 @@ impl Sites {
 
     /// Pairs the sites of accesses with that of the access that was noted last, which is at the second location, since
     /// their places are known. What came to a site once needn't be known.
-    ///
-    /// # Errors
-    ///
-    /// `NoMemory` where a growth was refused.
     pub fn learn(&mut self, second: u32, rivals: &[FoundAccess]) -> Result<(), NoMemory>
         ensures after { OnOk result (IsAfter self.old self.new) }
         ensures paired { (by_variable : Bool) (x : ℕ) (entries : List PlaceEntry) → All (λ a. IsKnown entries (place_at by_variable x a.spot.location second)) rivals.now → ArePaired by_variable x entries self.old.all.items → OnOk result (ArePaired by_variable x entries self.new.all.items) }

@@ -95,10 +95,6 @@ fn offer_races(
 
 impl Tables {
     /// No access.
-    ///
-    /// # Errors
-    ///
-    /// `NoMemory` where memory was refused, or where there were no random numbers for the tables.
     pub fn new<R: RandomSource>(rt: &R, alloc: Global) -> Result<Tables, NoMemory>
         ensures { (by_variable : Bool) (trace : List Event) (spots : List SpotData) → IfOk result (AreTables by_variable trace spots 0) }
     {
@@ -115,10 +111,6 @@ impl Tables {
     }
 
     /// Takes an access of a variable, the next event of the stream. Places are told apart by their variable too, or aren't.
-    ///
-    /// # Errors
-    ///
-    /// `NoMemory` where a growth was refused. Nothing can be asked then.
     pub fn take(
         &mut self,
         alloc: Global,
