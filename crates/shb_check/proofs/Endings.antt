@@ -10,10 +10,9 @@ use Rattle.shb_lines.specs.declared.fault.LineFault.{LineFault}
 use Rattle.shb_check.proofs.Words.{HasChecked, IsChecked, IsDisciplined, IsReadingOf, IsTraceOf, IsVerdictFor, TraceData, Verdict, lines_of, most_read, standard_limits, verdict_bytes}
 use Rattle.shb_lines.specs.text.Taking.{ReadsText, TakesAtMost, read_failed}
 use Rattle.shb_lines.proofs.text.TakingLemmas.{reads_left, reads_then, reads_told}
-use Rattle.shb_discipline.specs.FirstFault.{IsFirstFault, HasNoFault}
+use Rattle.shb_discipline.specs.Faults.{IsFirstFault, HasNoFault, IsRefusal}
 use Rattle.shb_discipline.specs.declared.checking.CheckError.{CheckError}
 use Rattle.shb_discipline.specs.declared.checking.CheckError.TheVariants as checking
-use Rattle.shb_discipline.specs.Faults.{IsRefusal}
 use Rattle.shb_discipline.proofs.FirstFault.{accepted, stopped, undisciplined}
 use Rattle.shb_check.specs.declared.errors.RunError.{RunError}
 use Rattle.shb_check.specs.declared.errors.RunError.TheVariants.{Trace, Source, Sink, Memory}

@@ -8,7 +8,7 @@ use Rattle.shb_lines.specs.text.Limits.{most_bytes, most_read, standard_limits}
 use Rattle.shb_lines.specs.text.Taking.{ReadsText, TakesAtMost}
 use Rattle.shb_lines.specs.text.Text.{lines_of}
 use Rattle.shb_lines.specs.text.TraceData.{IsTraceOf, TraceData}
-use Rattle.shb_discipline.specs.FirstFault.{HasNoFault, IsFirstFault}
+use Rattle.shb_discipline.specs.Faults.{HasNoFault, IsFirstFault}
 use Rattle.shb_judging.specs.declared.verdict.Verdict.{Verdict}
 use Rattle.shb_judging.specs.Verdicts.{IsVerdictFor}
 use Rattle.shb_reading.specs.Reading.{IsReportText}

@@ -5,7 +5,7 @@ use Rattle.shb_lines.specs.text.Limits.{standard_limits}
 use Rattle.shb_lines.specs.text.Messages.{message_of}
 use Rattle.shb_lines.specs.text.Text.{lines_of}
 use Rattle.shb_lines.specs.text.TraceData.{IsReadingOf, IsTraceOf, TraceData}
-use Rattle.shb_discipline.specs.FirstFault.{HasNoFault, IsFirstFault}
+use Rattle.shb_discipline.specs.Faults.{HasNoFault, IsFirstFault}
 use Rattle.shb_lines.specs.declared.read.ReadError.{ReadError}
 use Rattle.shb_lines.specs.declared.read.ReadError.TheVariants as reading
 use Rattle.shb_discipline.specs.declared.checking.CheckError.{CheckError}

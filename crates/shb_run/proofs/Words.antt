@@ -2,7 +2,7 @@
 pub use Rattle.shb_check.proofs.Endings.{Grows-same, none_found, of_any_fault}
 pub use Rattle.shb_check.proofs.OneTrace.{one_whole_trace}
 pub use Rattle.shb_check.specs.Errors.{IsAccepted, IsRefusalOf}
-pub use Rattle.shb_discipline.specs.FirstFault.{HasNoFault, IsFirstFault}
+pub use Rattle.shb_discipline.specs.Faults.{HasNoFault, IsFirstFault}
 pub use Rattle.shb_format.specs.Report.{IsReportOn, IsReportOnText, counts_of}
 pub use Rattle.shb_format.specs.Value.{AreShown, IsReportValue, IsShown, ReportValue, report_text}
 pub use Rattle.shb_judging.proofs.WrittenGood.{all_are_races, written_good}

@@ -4,7 +4,7 @@ use Rattle.shb_io.specs.Devices.{CountsFailure}
 use Rattle.shb_lines.specs.declared.fault.Fault.{Fault}
 use Rattle.shb_lines.specs.text.Limits.{most_read, standard_limits}
 use Rattle.shb_lines.specs.text.Taking.{ReadsText, TakesAtMost}
-use Rattle.shb_discipline.specs.FirstFault.{IsFirstFault}
+use Rattle.shb_discipline.specs.Faults.{IsFirstFault}
 use Rattle.shb_check.specs.declared.errors.RunError.{RunError}
 use Rattle.shb_check.specs.Outcomes.{Grows, OnJudged, OnMemory, OnNoTrace, OnSink, OnTrace, sink_failed, source_failed}
 use Rattle.shb_lines.specs.text.TraceData.{TraceData}

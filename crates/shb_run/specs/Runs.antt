@@ -9,7 +9,7 @@ use Rattle.shb_lines.specs.events.Order.{BelowPred}
 use Rattle.shb_lines.specs.events.Race.{Conflict, Race}
 use Rattle.shb_lines.specs.events.Schedule.{IsPrintedSchedule, IsSchedule}
 use Rattle.shb_lines.specs.text.Limits.{standard_limits}
-use Rattle.shb_discipline.specs.FirstFault.{HasNoFault}
+use Rattle.shb_discipline.specs.Faults.{HasNoFault}
 use Rattle.shb_format.specs.Report.{AllRaces, IsReportOn, IsReportOnText, counts_of}
 use Rattle.shb_format.specs.Value.{AreShown, IsShown}
 use Rattle.shb_scan.specs.Outcomes.{IsScan}

@@ -1,5 +1,5 @@
 -- The words and lemmas of the crates below, and this crate's words, as its proofs say them.
-pub use Rattle.shb_discipline.specs.FirstFault.{HasNoFault, IsFirstFault}
+pub use Rattle.shb_discipline.specs.Faults.{HasNoFault, IsFirstFault}
 pub use Rattle.shb_discipline.specs.State.{IsStateAfter}
 pub use Rattle.shb_format.specs.Keyed.{AreKeyed, Key, Keyed, counted_of, same_key, with_keyed}
 pub use Rattle.shb_format.specs.Places.{PlaceOf, location_at, places_after, section_bytes, with_one_more, with_pair}
@@ -19,11 +19,10 @@ pub use Rattle.shb_lines.specs.events.Discipline.{IsDisciplined, MayCome}
 pub use Rattle.shb_lines.specs.events.Events.{op_at, thread_at, variable_of}
 pub use Rattle.shb_lines.specs.events.Race.{Race, ends, variable_at}
 pub use Rattle.shb_lines.specs.text.Lines.{Moves}
-pub use Rattle.shb_lines.specs.text.Names.{with_name}
 pub use Rattle.shb_lines.specs.text.Numbering.{IsWithin, event_of, tables_of, with_step}
 pub use Rattle.shb_lines.specs.text.Numbers.{IsEventOf, IsNumber, IsOperation, Tables, events_of}
 pub use Rattle.shb_lines.specs.text.Taken.{AreLinesOf, HasTaken, IsTakenNext, IsWithinAfter, fed, rest_of}
-pub use Rattle.shb_lines.specs.text.Text.{LocatedEvent, lines_of, trace_of}
+pub use Rattle.shb_lines.specs.text.Text.{LocatedEvent, lines_of, trace_of, with_name}
 pub use Rattle.shb_lines.specs.text.TraceData.{IsTraceOf, TraceData, call_line, location_after, location_of, tables_in}
 pub use Rattle.shb_nearest.specs.Found.{IsFoundAccess, IsFoundRace, access_op, ends_of, location_in, site_in}
 pub use Rattle.shb_nearest.specs.Searched.{AreNearestRaces, HasRoom, HasSearched}

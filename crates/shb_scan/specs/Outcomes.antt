@@ -7,7 +7,7 @@ use Rattle.shb_lines.specs.events.Discipline.{IsDisciplined}
 use Rattle.shb_lines.specs.text.Lines.{Moves}
 use Rattle.shb_lines.specs.text.Text.{lines_of}
 use Rattle.shb_lines.specs.text.TraceData.{IsTraceOf, TraceData}
-use Rattle.shb_discipline.specs.FirstFault.{HasNoFault, IsFirstFault}
+use Rattle.shb_discipline.specs.Faults.{HasNoFault, IsFirstFault}
 use Rattle.shb_format.specs.Report.{IsReportOn}
 use Rattle.shb_nearest.specs.Nearest.{AreNearest}
 use Rattle.shb_scan.specs.declared.errors.ScanError.{ScanError}

@@ -12,12 +12,11 @@ use Rattle.shb_lines.specs.declared.owned_names.OwnedNames.{OwnedNames}
 use Rattle.shb_lines.specs.events.Discipline.{IsDisciplined}
 use Rattle.shb_lines.specs.events.Events.{variable_of}
 use Rattle.shb_lines.specs.text.Lines.{Moves}
-use Rattle.shb_lines.specs.text.Names.{with_name}
 use Rattle.shb_lines.specs.text.Numbering.{IsWithin, tables_of}
 use Rattle.shb_lines.specs.text.Taken.{HasTaken, IsTakenNext, IsWithinAfter, rest_of}
-use Rattle.shb_lines.specs.text.Text.{lines_of}
+use Rattle.shb_lines.specs.text.Text.{lines_of, with_name}
 use Rattle.shb_lines.specs.text.TraceData.{IsTraceOf, TraceData, location_of, tables_in}
-use Rattle.shb_discipline.specs.FirstFault.{HasNoFault, IsFirstFault}
+use Rattle.shb_discipline.specs.Faults.{HasNoFault, IsFirstFault}
 use Rattle.shb_discipline.specs.State.{IsStateAfter}
 use Rattle.shb_discipline.specs.declared.state.State.{State}
 use Rattle.shb_format.specs.declared.counts.Counts.{Counts}

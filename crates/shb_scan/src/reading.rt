@@ -7,7 +7,7 @@ ghost use Rattle.shb_io.specs.Devices.{CountsFailure};
 ghost use Rattle.shb_lines.specs.events.Discipline.{MayCome};
 ghost use Rattle.shb_lines.specs.events.Events.{variable_of};
 ghost use Rattle.shb_lines.specs.text.Lines.{Moves};
-ghost use Rattle.shb_lines.specs.text.Names.{with_name};
+ghost use Rattle.shb_lines.specs.text.Text.{with_name};
 ghost use Rattle.shb_lines.specs.text.Numbering.{IsWithin, event_of, with_step};
 ghost use Rattle.shb_lines.specs.text.Numbers.{Tables, events_of};
 ghost use Rattle.shb_lines.specs.text.Taken.{HasBar, IsBarred};

@@ -1,5 +1,5 @@
 use Rattle.std.proofs.Common.{◌∙◌, ◌+◌, ap}
-use Rattle.shb_stamps.specs.SweepData.{SweepData}
+use Rattle.shb_stamps.specs.Clocks.{SweepData}
 use Rattle.shb_orders.proofs.RowLemmas.{rows_more}
 use Rattle.shb_orders.proofs.full_clocks.full.Goals as goal
 
