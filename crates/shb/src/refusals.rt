@@ -3,7 +3,7 @@
 //! they are missing where it can't be read again, as a pipe, and where memory is short.
 ghost use Rattle.std.specs.Prelude.{◌≡◌};
 ghost use Rattle.shb_check.specs.Errors.{exit_status_of};
-ghost use Rattle.shb_scan.specs.Words.{scan_status_of};
+ghost use Rattle.shb_scan.specs.Errors.{scan_status_of};
 
 use crate::beginning::WayOut;
 use memchr::memchr;

@@ -12,8 +12,7 @@ use Rattle.shb_lines.specs.text.Limits.{standard_limits}
 use Rattle.shb_discipline.specs.Faults.{HasNoFault}
 use Rattle.shb_format.specs.Report.{AllRaces, IsReportOn, IsReportOnText, counts_of}
 use Rattle.shb_format.specs.Value.{AreShown, IsShown}
-use Rattle.shb_scan.specs.Outcomes.{IsScan}
-use Rattle.shb_scan.specs.Sites.{AreAtOnePlace}
+use Rattle.shb_scan.specs.Outcomes.{AreAtOnePlace, IsScan}
 use Rattle.shb_run.specs.declared.settings.Choice.{Choice}
 use Rattle.shb_run.specs.declared.settings.Choice.TheVariants.{All, Nearest}
 use Rattle.shb_run.specs.declared.settings.Summary.{Summary}

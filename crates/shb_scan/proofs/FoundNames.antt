@@ -1,7 +1,9 @@
 -- The line of an access that was found is made of the names behind its numbers.
+use Rattle.std.specs.Bool.{then_some}
+use Rattle.std.specs.Borrow.{Bor}
 use Rattle.std.specs.Prelude.{All, option_and_then}
 use Rattle.std.proofs.Common.{◌≡◌, ℕ, List, Bool, true, false, cond, Option, None, Some, is_some, slice_get, refl, sym, ap, ◌∙◌}
-use Rattle.shb_scan.proofs.Words.{AreSpots, Event, FoundAccess, FoundRace, HasNames, HasRaceNames, IsFoundAccess, IsFoundRace, IsLocated, IsMadeOf, IsNumber, IsOperation, IsRaceLocated, IsRaceMadeOf, IsTraceOf, ScanNames, Spot, Tables, TraceData, access_op, after_first, call_line, line_of_event, list_any, location_after, location_if, location_of, made_of_its_names, slice_get_within, tables_in, variable_at, variable_of}
+use Rattle.shb_scan.proofs.Words.{AreSpots, Event, FoundAccess, FoundRace, HasNames, HasRaceNames, IsFoundAccess, IsFoundRace, IsLocated, IsMadeOf, IsNumber, IsOperation, IsRaceLocated, IsRaceMadeOf, IsTraceOf, ScanNames, Spot, Tables, TraceData, access_op, after_first, call_line, line_of_event, list_any, location_after, location_of, made_of_its_names, option_copied, slice_get_within, tables_in, variable_at, variable_of}
 use Rattle.shb_lines.specs.declared.event.Kind.{Kind}
 use Rattle.shb_lines.specs.text.Grammar.{is_mark}
 use Rattle.shb_lines.specs.text.Meaning.{is_bar}
@@ -26,9 +28,9 @@ no_mark true = refl
 no_mark false = refl
 
 -- the location after a second bar, by whether there is one
-after_is : (any barred : Bool) (location : List ℕ) → barred ≡ is_some (cond any (Some location) None) → cond any (Some location) None ≡ location_if barred location
-after_is true barred location is = ap (λ b. location_if b location) (sym is)
-after_is false barred location is = ap (λ b. location_if b location) (sym is)
+after_is : (any barred : Bool) (location : List ℕ) → barred ≡ is_some (cond any (Some location) None) → cond any (Some location) None ≡ then_some barred location
+after_is true barred location is = ap (λ b. then_some b location) (sym is)
+after_is false barred location is = ap (λ b. then_some b location) (sym is)
 
 accesses : (writes : Bool) (x : ℕ) → variable_of (access_op writes x) ≡ Some x
 accesses true x = refl
@@ -77,17 +79,21 @@ module _ (lines : List (List ℕ)) (names : ScanNames) (trace : TraceData) (spot
       let race = races_made_of races h k d below in
       record { first = has_names names trace _ _ race.first; second = has_names names trace _ _ race.second }
 
+pub copied_if : (barred : Bool) (location : Bor (List ℕ)) → option_copied (then_some barred location) ≡ then_some barred location.now
+copied_if true location = refl
+copied_if false location = refl
+
 -- the line that is made of the texts behind the numbers of an access is that of its event
 pub line_is : (names : ScanNames) (trace : TraceData) (x : ℕ) (access : FoundAccess) (thread name location : List ℕ) (after : Option (List ℕ)) → IsMadeOf names trace x access
     → slice_get names.threads.now access.thread ≡ Some thread → slice_get names.variables.now x ≡ Some name
-    → slice_get names.locations.now access.spot.location ≡ Some location → after ≡ location_if access.spot.barred location
+    → slice_get names.locations.now access.spot.location ≡ Some location → after ≡ then_some access.spot.barred location
     → line_of_event trace access.event ≡ call_line thread (access_kind access.writes) name after
 line_is names trace x access thread name location after h thread_is name_is location_is after_location =
     let thread_same : h.thread ≡ thread = (let both = sym h.thread_is ∙ thread_is in cc) in
     let name_same : h.name ≡ name = (let both = sym h.name_is ∙ name_is in cc) in
     let location_same : h.location ≡ location = (let both = sym h.location_is ∙ location_is in cc) in
-    let after_same : location_if access.spot.barred h.location ≡ after = ap (location_if access.spot.barred) location_same ∙ sym after_location in
+    let after_same : then_some access.spot.barred h.location ≡ after = ap (then_some access.spot.barred) location_same ∙ sym after_location in
     h.line
-    ∙ ap (λ t. call_line t (access_kind access.writes) h.name (location_if access.spot.barred h.location)) thread_same
-    ∙ ap (λ n. call_line thread (access_kind access.writes) n (location_if access.spot.barred h.location)) name_same
+    ∙ ap (λ t. call_line t (access_kind access.writes) h.name (then_some access.spot.barred h.location)) thread_same
+    ∙ ap (λ n. call_line thread (access_kind access.writes) n (then_some access.spot.barred h.location)) name_same
     ∙ ap (call_line thread (access_kind access.writes) name) after_same

@@ -2,7 +2,7 @@
 use Rattle.std.proofs.Common.{◌≡◌, ◌+◌, ℕ, Bool, List, [], ◌++◌, map, None, Some, Option, Result, Ok, Err, IfSome, IsErrAnd, refl, sym, ap, subst, ◌∙◌, append-nil}
 use Rattle.shb_scan.proofs.Words.{Appends, Appends-nil, AppendsPrefix, Fault, FoundScan, HasNoFault, HasReadScan, HasScan, IsFirstFault, IsFoundIn, IsScan, IsScanOutcome, ScanError, ends_of, listing_bytes, scan_limits}
 use Rattle.shb_scan.specs.declared.errors.ScanError.TheVariants.{Trace, TooManyLines, Source, Sink, Memory}
-use Rattle.shb_scan.specs.Reads.{ReadsAll}
+use Rattle.shb_scan.specs.Outcomes.{ReadsAll}
 use Rattle.shb_scan.proofs.RaceBlocks.{reported}
 
 -- a source that tells its bytes and was read to its end gave all of them

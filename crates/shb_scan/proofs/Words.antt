@@ -19,10 +19,10 @@ pub use Rattle.shb_lines.specs.events.Discipline.{IsDisciplined, MayCome}
 pub use Rattle.shb_lines.specs.events.Events.{op_at, thread_at, variable_of}
 pub use Rattle.shb_lines.specs.events.Race.{Race, ends, variable_at}
 pub use Rattle.shb_lines.specs.text.Lines.{Moves}
+pub use Rattle.shb_lines.specs.text.Text.{LocatedEvent, lines_of, trace_of, with_name}
 pub use Rattle.shb_lines.specs.text.Numbering.{IsWithin, event_of, tables_of, with_step}
 pub use Rattle.shb_lines.specs.text.Numbers.{IsEventOf, IsNumber, IsOperation, Tables, events_of}
 pub use Rattle.shb_lines.specs.text.Taken.{AreLinesOf, HasTaken, IsTakenNext, IsWithinAfter, fed, rest_of}
-pub use Rattle.shb_lines.specs.text.Text.{LocatedEvent, lines_of, trace_of, with_name}
 pub use Rattle.shb_lines.specs.text.TraceData.{IsTraceOf, TraceData, call_line, location_after, location_of, tables_in}
 pub use Rattle.shb_nearest.specs.Found.{IsFoundAccess, IsFoundRace, access_op, ends_of, location_in, site_in}
 pub use Rattle.shb_nearest.specs.Searched.{AreNearestRaces, HasRoom, HasSearched}
@@ -30,15 +30,11 @@ pub use Rattle.shb_nearest.specs.declared.access.FoundAccess.{FoundAccess}
 pub use Rattle.shb_nearest.specs.declared.access.FoundRace.{FoundRace}
 pub use Rattle.shb_nearest.specs.declared.access.Spot.{Spot}
 pub use Rattle.shb_nearest.specs.declared.search.NearestRaces.{NearestRaces}
-pub use Rattle.shb_scan.specs.FoundNames.{AreLocated, AreSpots, HasNames, HasRaceNames, IsLocated, IsMadeOf, IsRaceLocated, IsRaceMadeOf, IsSpotOf, location_if}
-pub use Rattle.shb_scan.specs.Limits.{most_scan_events, scan_bounds, scan_limits}
-pub use Rattle.shb_scan.specs.Listing.{alone, blocks_of, listing_bytes}
-pub use Rattle.shb_scan.specs.Outcomes.{HasScan, IsScan, IsScanOutcome}
-pub use Rattle.shb_scan.specs.Scans.{HasEnded, HasNoted, HasReadScan, HasScanned, HasSpot, IsFoundIn, IsNext, IsStepped, counts_in, places_in}
-pub use Rattle.shb_scan.specs.Sites.{AreAtOnePlace, site_at}
-pub use Rattle.shb_scan.specs.Stored.{HasTakenTo, IsSpotIn}
+pub use Rattle.shb_scan.specs.FoundNames.{AreLocated, AreSpots, HasNames, HasRaceNames, IsLocated, IsMadeOf, IsRaceLocated, IsRaceMadeOf, IsSpotOf, alone, blocks_of, listing_bytes}
+pub use Rattle.shb_scan.specs.Outcomes.{AreAtOnePlace, HasScan, IsScan, IsScanOutcome, most_scan_events, scan_bounds, scan_limits, site_at}
+pub use Rattle.shb_scan.specs.Scans.{HasEnded, HasNoted, HasReadScan, HasScanned, HasSpot, HasTakenTo, IsFoundIn, IsNext, IsSpotIn, IsStepped, counts_in, places_in}
 pub use Rattle.shb_scan.specs.declared.errors.ScanError.{ScanError}
-pub use Rattle.shb_scan.specs.declared.found.FoundScan.{FoundScan}
+pub use Rattle.shb_scan.specs.declared.writing.FoundScan.{FoundScan}
 pub use Rattle.shb_scan.specs.declared.reading.Scan.{Scan}
 pub use Rattle.shb_scan.specs.declared.writing.ScanNames.{ScanNames}
 pub use Rattle.std.proofs.Math.Seq.{get_or-append_seam, take-append_seam, take-suc}

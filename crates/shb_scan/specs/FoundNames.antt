@@ -1,18 +1,15 @@
--- The names behind the numbers of races that were found, and what makes them those of a trace.
-use Rattle.std.specs.Prelude.{◌≡◌, ◌<◌, ℕ, Bool, List, length, slice_get, is_some, Option, None, Some, if◌then◌else◌}
+-- The names behind the numbers of races that were found, what makes them those of a trace, and the text of their list report.
+use Rattle.std.specs.Prelude.{◌≡◌, ◌<◌, ℕ, Bool, List, length, slice_get, is_some, Option, None, Some, if◌then◌else◌, ◌++◌, map}
+use Rattle.std.specs.Bool.{then_some}
 use Rattle.shb_lines.specs.events.Race.{variable_at}
 use Rattle.shb_lines.specs.text.TraceData.{TraceData, call_line, location_after, location_of}
 use Rattle.shb_format.specs.Places.{location_at}
-use Rattle.shb_format.specs.Report.{line_of_event}
+use Rattle.shb_format.specs.Report.{ShownRace, blocks_from, front_bytes, line_of_event, tail_bytes}
 use Rattle.shb_format.specs.AccessText.{access_kind}
 use Rattle.shb_nearest.specs.declared.access.FoundAccess.{FoundAccess}
 use Rattle.shb_nearest.specs.declared.access.FoundRace.{FoundRace}
 use Rattle.shb_nearest.specs.declared.access.Spot.{Spot}
 use Rattle.shb_scan.specs.declared.writing.ScanNames.{ScanNames}
-
--- what stands after the second bar of an access's line: its location, if there is a second bar
-abbrev pub location_if : Bool → List ℕ → Option (List ℕ)
-location_if barred location = if barred then Some location else None
 
 -- the numbers of an access, and of its variable, have names
 pub record HasNames (names : ScanNames) (x : ℕ) (access : FoundAccess) : Type 0 where
@@ -28,7 +25,7 @@ pub record IsMadeOf (names : ScanNames) (trace : TraceData) (x : ℕ) (access : 
   pub thread_is : slice_get names.threads.now access.thread ≡ Some thread
   pub name_is : slice_get names.variables.now x ≡ Some name
   pub location_is : slice_get names.locations.now access.spot.location ≡ Some location
-  pub line : line_of_event trace access.event ≡ call_line thread (access_kind access.writes) name (location_if access.spot.barred location)
+  pub line : line_of_event trace access.event ≡ call_line thread (access_kind access.writes) name (then_some access.spot.barred location)
 
 -- the spot of an access with this line: the number of its location, and whether the line has a second bar
 pub record IsSpotOf (locations : List (List ℕ)) (line : List ℕ) (spot : Spot) : Type 0 where
@@ -59,3 +56,15 @@ IsLocated locations trace access = slice_get locations access.spot.location ≡ 
 pub record IsRaceLocated (locations : List (List ℕ)) (trace : TraceData) (race : FoundRace) : Type 0 where
   pub first : IsLocated locations trace race.first
   pub second : IsLocated locations trace race.second
+
+-- a race without a schedule
+abbrev pub alone : ℕ × ℕ → ShownRace
+alone race = record { pair = race; schedule = None }
+
+-- the blocks of races without schedules, numbered from 1
+abbrev pub blocks_of : TraceData → List (ℕ × ℕ) → List ℕ
+blocks_of trace races = blocks_from trace 1 (map alone races)
+
+-- the whole text, with these races
+abbrev pub listing_bytes : TraceData → List (ℕ × ℕ) → List ℕ
+listing_bytes trace races = front_bytes trace races ++ (blocks_of trace races ++ tail_bytes)

@@ -1,10 +1,4 @@
-pub mod Limits
 pub mod Errors
 pub mod FoundNames
-pub mod Sites
-pub mod Listing
-pub mod Reads
 pub mod Scans
-pub mod Words
-pub mod Stored
 pub mod Outcomes

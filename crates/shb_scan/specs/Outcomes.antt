@@ -1,6 +1,6 @@
--- What a scan of a trace writes and answers, and what it leaves of its source and its sink.
-use Rattle.std.specs.Prelude.{◌≡◌, ◌-◌, ◌^◌, ◌≤◌, ℕ, Bool, false, List, length, Option, Result, IfOk, IfSome}
-use Rattle.std.specs.Io.KnownBytes.{Appends}
+-- What a scan of a trace writes and answers, under which limits, and what it leaves of its source and its sink.
+use Rattle.std.specs.Prelude.{◌≡◌, ◌-◌, ◌^◌, ◌≤◌, ℕ, Bool, false, List, length, Option, Result, IfOk, IfSome, true, None, if◌then◌else◌, ◌++◌}
+use Rattle.std.specs.Io.KnownBytes.{Appends, IsAtEnd}
 use Rattle.shb_io.specs.Devices.{AppendsPrefix, CountsFailure}
 use Rattle.shb_lines.specs.declared.fault.Fault.{Fault}
 use Rattle.shb_lines.specs.events.Discipline.{IsDisciplined}
@@ -12,9 +12,44 @@ use Rattle.shb_format.specs.Report.{IsReportOn}
 use Rattle.shb_nearest.specs.Nearest.{AreNearest}
 use Rattle.shb_scan.specs.declared.errors.ScanError.{ScanError}
 use Rattle.shb_scan.specs.Errors.{OnSink, OnTooManyLines, OnTrace, OnUnwritten, sink_failed, source_failed}
-use Rattle.shb_scan.specs.Limits.{scan_limits}
-use Rattle.shb_scan.specs.Reads.{ReadsAll, ReadsFront}
-use Rattle.shb_scan.specs.Sites.{site_at}
+use Rattle.shb_lines.specs.declared.limits.Limits.{Limits}
+use Rattle.shb_lines.specs.text.Limits.{most_line}
+use Rattle.shb_lines.specs.text.Taken.{rest_of, without_text_limit}
+use Rattle.shb_lines.specs.events.Race.{variable_at}
+use Rattle.shb_format.specs.Places.{location_at, place_at}
+
+abbrev pub most_scan_events : ℕ
+most_scan_events = 4294967294
+
+-- of events, threads and the bytes of a line; the bytes of a text have no limit
+abbrev pub scan_bounds : Limits
+scan_bounds = record { text = 0; line = most_line; events = most_scan_events; threads = 65535 }
+
+-- the limits of this text, which is not too long
+abbrev pub scan_limits : List ℕ → Limits
+scan_limits text = without_text_limit scan_bounds text
+
+-- the location of an event, and where it is asked for its variable
+abbrev pub site_at : Bool → TraceData → ℕ → List ℕ × Option ℕ
+site_at by_variable trace event = (location_at trace event, if by_variable then variable_at trace.events event else None)
+
+-- two races are at one place: their locations are the same, and where it is asked for their variable
+pub record AreAtOnePlace (by_variable : Bool) (trace : TraceData) (i j k l : ℕ) : Type 0 where
+  pub place : place_at trace i j ≡ place_at trace k l
+  pub variable : by_variable ≡ true → variable_at trace.events j ≡ variable_at trace.events l
+
+-- a source gave its bytes up to its end, and P holds of them
+pub record ReadsAll (old new : Option (List ℕ)) (given_before given_after : ℕ) (P : List ℕ → Type 0) : Type 0 where
+  pub text : List ℕ
+  pub moves : Moves old new given_before given_after text
+  pub ended : IsAtEnd new
+  pub holds : P text
+
+-- a source gave its first bytes, and P holds of all that it had; where it doesn't tell them, of those that it gave
+pub record ReadsFront (old new : Option (List ℕ)) (given_before given_after : ℕ) (P : List ℕ → Type 0) : Type 0 where
+  pub read : List ℕ
+  pub moves : Moves old new given_before given_after read
+  pub holds : P (read ++ rest_of new)
 
 -- the races of the scan of a trace: the nearest of each place, where a place is two location texts, or by variable such texts and a variable
 abbrev pub IsScan : Bool → TraceData → List (ℕ × ℕ) → Type 0

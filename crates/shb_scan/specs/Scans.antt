@@ -1,5 +1,5 @@
--- What is known of a text that is read once, line by line, and of which no event is kept.
-use Rattle.std.specs.Prelude.{◌≡◌, ◌⊎◌, ◌+◌, ◌-◌, ◌^◌, ◌≤◌, ℕ, Bool, true, false, List, ◌++◌, All, length, map, is_some, Option, Result, Ok, Err, IfOk, ⊤}
+-- What is known of a text that is read once, line by line, and of which no event is kept; and of a trace whose events are taken one by one.
+use Rattle.std.specs.Prelude.{◌≡◌, ◌⊎◌, ◌+◌, ◌-◌, ◌^◌, ◌≤◌, ℕ, Bool, true, false, List, ◌++◌, All, length, map, is_some, Option, Result, Ok, Err, IfOk, ⊤, slice_get, Some, take}
 use Rattle.std.specs.Io.KnownBytes.{IsAtEnd}
 use Rattle.std.specs.List.{IsDistinct}
 use Rattle.std.specs.Str.{bytes_eq}
@@ -12,16 +12,16 @@ use Rattle.shb_lines.specs.declared.owned_names.OwnedNames.{OwnedNames}
 use Rattle.shb_lines.specs.events.Discipline.{IsDisciplined}
 use Rattle.shb_lines.specs.events.Events.{variable_of}
 use Rattle.shb_lines.specs.text.Lines.{Moves}
+use Rattle.shb_lines.specs.text.Text.{lines_of, with_name}
 use Rattle.shb_lines.specs.text.Numbering.{IsWithin, tables_of}
 use Rattle.shb_lines.specs.text.Taken.{HasTaken, IsTakenNext, IsWithinAfter, rest_of}
-use Rattle.shb_lines.specs.text.Text.{lines_of, with_name}
 use Rattle.shb_lines.specs.text.TraceData.{IsTraceOf, TraceData, location_of, tables_in}
 use Rattle.shb_discipline.specs.Faults.{HasNoFault, IsFirstFault}
 use Rattle.shb_discipline.specs.State.{IsStateAfter}
 use Rattle.shb_discipline.specs.declared.state.State.{State}
 use Rattle.shb_format.specs.declared.counts.Counts.{Counts}
 use Rattle.shb_format.specs.Keyed.{AreKeyed}
-use Rattle.shb_format.specs.Places.{PlaceOf, places_of_pairs}
+use Rattle.shb_format.specs.Places.{PlaceOf, location_at, places_of_pairs}
 use Rattle.shb_format.specs.Report.{pair_of}
 use Rattle.shb_nearest.specs.Found.{IsFoundRace, ends_of}
 use Rattle.shb_nearest.specs.Nearest.{AreNearest}
@@ -31,13 +31,13 @@ use Rattle.shb_nearest.specs.declared.access.Spot.{Spot}
 use Rattle.shb_nearest.specs.declared.search.NearestRaces.{NearestRaces}
 use Rattle.shb_scan.specs.declared.errors.ScanError.{ScanError}
 use Rattle.shb_scan.specs.declared.errors.ScanError.TheVariants as errors
-use Rattle.shb_scan.specs.declared.found.FoundScan.{FoundScan}
+use Rattle.shb_scan.specs.declared.writing.FoundScan.{FoundScan}
 use Rattle.shb_scan.specs.declared.reading.Scan.{Scan}
-use Rattle.shb_scan.specs.FoundNames.{AreSpots, IsSpotOf}
+use Rattle.shb_scan.specs.FoundNames.{AreLocated, AreSpots, IsSpotOf}
 use Rattle.shb_scan.specs.Errors.{IsReading, OnTooManyLines, OnTrace, source_failed}
-use Rattle.shb_scan.specs.Reads.{ReadsAll, ReadsFront}
-use Rattle.shb_scan.specs.Sites.{site_at}
-use Rattle.shb_scan.specs.Limits.{scan_bounds, scan_limits}
+use Rattle.shb_scan.specs.Outcomes.{ReadsAll, ReadsFront, scan_bounds, scan_limits, site_at}
+use Rattle.std.specs.Option.{option_map_or}
+use Rattle.shb_stamps.specs.Open.{is_open}
 
 -- the spot of an event by its line, if it is an access; then its location is put among the names
 pub record HasSpot (old new : List (List ℕ)) (op : Op) (line : List ℕ) (spot : Spot) : Type 0 where
@@ -124,3 +124,16 @@ counts_in numbering = record {
   locks = length numbering.locks;
   variables = length numbering.variables;
 }
+
+-- the spot of an event has the number of its location, if it accesses an open variable; the others keep their numbers
+pub record IsSpotIn (trace : TraceData) (flags : List Bool) (op : Op) (e : ℕ) (old new : List (List ℕ)) (spot : Spot) : Type 0 where
+  pub access : option_map_or (is_open flags) (variable_of op) false ≡ true → slice_get new spot.location ≡ Some (location_at trace e)
+  pub stay : (number : ℕ) (text : List ℕ) → slice_get old number ≡ Some text → slice_get new number ≡ Some text
+  pub few : length new ≤ length old + 1
+
+-- the first n events of the trace were taken, those of open variables with the numbers of their locations
+pub record HasTakenTo (trace : TraceData) (flags : List Bool) (n : ℕ) (locations : List (List ℕ)) (nearest : NearestRaces) : Type 0 where
+  pub spots : List Spot
+  pub searched : HasSearched (take n trace.events) spots nearest
+  pub located : AreLocated (λ x. is_open flags x ≡ true) trace locations spots
+  pub few : length locations ≤ n

@@ -2,8 +2,7 @@
 ghost use Rattle.std.specs.Prelude.{◌≡◌, ℕ, Bool, Contains, List};
 ghost use Rattle.shb_lines.specs.events.Race.{Race};
 ghost use Rattle.shb_lines.specs.text.TraceData.{TraceData};
-ghost use Rattle.shb_scan.specs.Outcomes.{HasScan, IsScan};
-ghost use Rattle.shb_scan.specs.Sites.{AreAtOnePlace};
+ghost use Rattle.shb_scan.specs.Outcomes.{AreAtOnePlace, HasScan, IsScan};
 
 /// A text has at most one scan of each form: its lines have one trace, and a trace has one list of nearest races.
 pub fn scan_of_text_is_unique()

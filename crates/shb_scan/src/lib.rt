@@ -7,20 +7,15 @@
 //! its contract. [`nearest_races`] finds the same races in a trace whose events are kept.
 #![tactic(auto)]
 
-mod counting;
 mod errors;
-mod found;
 pub mod laws;
-mod limits;
 mod reading;
 mod scan;
-mod statuses;
 mod stored;
 mod writing;
 
-pub use errors::ScanError;
-pub use found::write_found;
+pub use errors::{ScanError, scan_line, scan_message, status_of_scan};
 pub use reading::read_scan;
 pub use scan::run_scan;
-pub use statuses::{scan_line, scan_message, status_of_scan};
 pub use stored::nearest_races;
+pub use writing::write_found;

@@ -1,7 +1,9 @@
 //! From a source to the nearest races of its trace, or to the first fault of its text. Neither the text nor the
 //! events are kept.
-ghost use Rattle.std.specs.Prelude.{◌≡◌, ◌+◌, ◌-◌, ◌^◌, ◌<◌, ◌↔◌, ◌++◌, ◌∷◌, ℕ, List, [], IsTrue, IfOk, OnOk, Option, Some, length, is_some};
+ghost use Rattle.std.specs.Prelude.{◌≡◌, ◌+◌, ◌-◌, ◌^◌, ◌<◌, ◌↔◌, ◌++◌, ◌∷◌, ℕ, All, List, [], IsTrue, IfOk, OnOk, Option, Some, length, is_some};
+ghost use Rattle.std.specs.List.{IsDistinct};
 ghost use Rattle.std.specs.Option.{option_copied};
+ghost use Rattle.std.specs.Str.{bytes_eq};
 ghost use Rattle.std.specs.Str.Lines.{strip_carriage_return};
 ghost use Rattle.shb_io.specs.Devices.{CountsFailure};
 ghost use Rattle.shb_lines.specs.events.Discipline.{MayCome};
@@ -12,21 +14,21 @@ ghost use Rattle.shb_lines.specs.text.Numbering.{IsWithin, event_of, with_step};
 ghost use Rattle.shb_lines.specs.text.Numbers.{Tables, events_of};
 ghost use Rattle.shb_lines.specs.text.Taken.{HasBar, IsBarred};
 ghost use Rattle.shb_lines.specs.text.TraceData.{TraceData, location_after, location_of};
+ghost use Rattle.shb_format.specs.Keyed.{AreKeyed};
 ghost use Rattle.shb_nearest.specs.declared.access.Spot.{Spot as SpotData};
 ghost use Rattle.shb_scan.specs.declared.errors.ScanError.TheVariants.{Trace};
 ghost use Rattle.shb_scan.specs.Errors.{IsDeviceless, source_failed};
-ghost use Rattle.shb_scan.specs.Limits.{most_scan_events, scan_bounds};
-ghost use Rattle.shb_scan.specs.FoundNames.{IsSpotOf};
-ghost use Rattle.shb_scan.specs.Scans.{HasEnded, HasNoted, HasReadScan, HasScanned, HasSpot, IsFoundIn, IsNext, IsStepped};
+ghost use Rattle.shb_scan.specs.Outcomes.{most_scan_events, scan_bounds};
+ghost use Rattle.shb_scan.specs.FoundNames.{IsRaceLocated, IsSpotOf};
+ghost use Rattle.shb_scan.specs.Scans.{HasEnded, HasNoted, HasReadScan, HasScanned, HasSpot, IsFoundIn, IsNext, IsStepped, places_in};
 
-use crate::counting::places_of;
 use crate::errors::ScanError;
-use crate::found::FoundScan;
-use crate::limits::scan_bounds;
+use crate::writing::FoundScan;
 use shb_discipline::State;
+use shb_format::PlaceTable;
 use shb_io::{NoMemory, Source};
-use shb_lines::{EventReader, Fault, Limits, Op, OwnedNames, Step, Taken};
-use shb_nearest::{NearestRaces, Spot};
+use shb_lines::{EventReader, Fault, Limits, Op, OwnedNames, Pair, Step, Taken};
+use shb_nearest::{FoundRace, NearestRaces, Spot};
 use std::alloc::Global;
 use std::random::RandomSource;
 
@@ -50,13 +52,15 @@ impl Drop for Scan {
     }
 }
 
-/// Whether the operation accesses a variable.
-pub(crate) fn is_access(op: Op) -> bool
-    ensures { result ≡ is_some (variable_of op) }
+/// The limits of a scan: 4,294,967,294 events, 65,535 threads and 4,096 bytes a line. A text may have any number of bytes.
+fn scan_bounds() -> Limits
+    ensures { result ≡ scan_bounds }
 {
-    match op {
-        Op::Read(_) | Op::Write(_) => true,
-        _ => false,
+    Limits {
+        text: 0,
+        line: 4096,
+        events: 4_294_967_294,
+        threads: 65_535,
     }
 }
 
@@ -85,6 +89,30 @@ fn spot_of(locations: &mut OwnedNames, location: Option<&[u8]>) -> Result<Spot, 
     }
 }
 
+/// The places of some races, by the numbers of their locations, each with how many of the races it has.
+fn places_of<R: RandomSource>(
+    rt: &R,
+    alloc: Global,
+    races: &[FoundRace],
+) -> Result<PlaceTable, NoMemory>
+    ensures { IfOk result (λ places. (trace : TraceData) (locations : List (List ℕ)) → IsDistinct bytes_eq locations → All (IsRaceLocated locations trace) races.now
+        → AreKeyed locations places (places_in trace races.now)) }
+{
+    let mut places = PlaceTable::new(rt, alloc)?;
+    for race in races {
+        let key = (
+            race.first.spot.location as usize,
+            race.second.spot.location as usize,
+        );
+        let pair = Pair {
+            first: race.first.event,
+            second: race.second.event,
+        };
+        places.add(key, pair)?;
+    }
+    Ok(places)
+}
+
 impl Scan {
     /// Nothing read yet. Places are told apart by their variable too, or aren't.
     fn new<R: RandomSource>(rt: &R, alloc: Global, by_variable: bool) -> Result<Scan, NoMemory>
@@ -108,7 +136,7 @@ impl Scan {
         ensures nearest { self.new.nearest ≡ self.old.nearest }
         ensures spot { IfOk result (HasSpot self.old.locations self.new.locations op (strip_carriage_return self.old.reader.lines.line)) }
     {
-        if is_access(op) {
+        if op.variable().is_some() {
             return spot_of(&mut self.locations, self.reader.location());
         }
         Ok(Spot {

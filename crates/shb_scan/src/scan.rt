@@ -3,8 +3,8 @@ ghost use Rattle.std.specs.Prelude.{◌-◌, ◌^◌, ◌<◌};
 ghost use Rattle.shb_scan.specs.Outcomes.{IsScanOutcome};
 
 use crate::errors::ScanError;
-use crate::found::write_found;
 use crate::reading::read_scan;
+use crate::writing::write_found;
 use shb_io::{Sink, Source};
 use std::alloc::Global;
 use std::random::RandomSource;

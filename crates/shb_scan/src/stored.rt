@@ -8,7 +8,7 @@ ghost use Rattle.shb_stamps.specs.Open.{is_open as is_open_in};
 ghost use Rattle.shb_stamps.specs.Settling.{AreOpen};
 ghost use Rattle.shb_nearest.specs.Found.{ends_of};
 ghost use Rattle.shb_scan.specs.Outcomes.{IsScan};
-ghost use Rattle.shb_scan.specs.Stored.{HasTakenTo, IsSpotIn};
+ghost use Rattle.shb_scan.specs.Scans.{HasTakenTo, IsSpotIn};
 
 use shb_discipline::Disciplined;
 use shb_format::Locations;

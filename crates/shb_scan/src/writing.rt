@@ -1,6 +1,5 @@
-//! Writes the list report of races that were found, of the names behind their numbers.
-ghost use Rattle.std.specs.Prelude.{◌≡◌, ◌-◌, ◌^◌, ◌<◌, ◌≤◌, All, List, None, length, map};
-ghost use Rattle.std.specs.Option.{option_copied};
+//! What was found in a text that was read once, and its scan: the list report of the races, of the names behind their numbers.
+ghost use Rattle.std.specs.Prelude.{◌≡◌, ◌-◌, ◌^◌, ◌<◌, ◌≤◌, All, List, None, length, map, ℕ};
 ghost use Rattle.shb_io.specs.Devices.{IsCounted, Writes};
 ghost use Rattle.shb_lines.specs.text.TraceData.{TraceData};
 ghost use Rattle.shb_format.specs.AccessText.{HasLineOf};
@@ -8,13 +7,12 @@ ghost use Rattle.shb_format.specs.Keyed.{AreKeyed};
 ghost use Rattle.shb_format.specs.Places.{PlaceOf};
 ghost use Rattle.shb_format.specs.Report.{block_bytes, counts_of};
 ghost use Rattle.shb_nearest.specs.Found.{ends_of};
-ghost use Rattle.shb_scan.specs.FoundNames.{HasNames, HasRaceNames, IsMadeOf, IsRaceMadeOf, location_if};
-ghost use Rattle.shb_scan.specs.Listing.{blocks_of, listing_bytes};
-ghost use Rattle.shb_scan.specs.Scans.{places_in};
+ghost use Rattle.shb_scan.specs.FoundNames.{HasNames, HasRaceNames, IsMadeOf, IsRaceMadeOf, blocks_of, listing_bytes};
+ghost use Rattle.shb_scan.specs.Scans.{places_in, IsFoundIn, counts_in};
 
 use shb_format::{AccessText, Counts, PlaceTable, access_block, head, named_place_lines, tail};
 use shb_io::{Failed, Sink};
-use shb_lines::OwnedNames;
+use shb_lines::{EventReader, Numbering, OwnedNames};
 use shb_nearest::{FoundAccess, FoundRace};
 
 /// The names behind the numbers of accesses.
@@ -28,13 +26,6 @@ pub struct ScanNames<'n> {
     pub locations: &'n OwnedNames,
 }
 
-/// The location of an access, if its line has a second bar.
-fn location_if(barred: bool, location: &[u8]) -> Option<&[u8]>
-    ensures { option_copied result ≡ location_if barred location.now }
-{
-    if barred { Some(location) } else { None }
-}
-
 /// The texts that the line of an access of a variable is made of.
 fn access_text<'n>(names: &ScanNames<'n>, variable: u32, access: FoundAccess) -> AccessText<'n>
     requires { HasNames names.now variable access }
@@ -46,10 +37,10 @@ fn access_text<'n>(names: &ScanNames<'n>, variable: u32, access: FoundAccess) ->
         thread: names.threads.name(access.thread),
         writes: access.writes,
         variable: names.variables.name(variable),
-        location: location_if(
-            access.spot.barred,
-            names.locations.name(access.spot.location),
-        ),
+        location: access
+            .spot
+            .barred
+            .then_some(names.locations.name(access.spot.location)),
     }
 }
 
@@ -94,11 +85,7 @@ fn write_races<S: Sink>(
 ///
 /// The numbers of each race and of each place must have names. Where the counts, the places and the lines made of these
 /// names are those of a trace, the text is the trace's; else nothing is said of it.
-///
-/// # Errors
-///
-/// [`Failed`]: the sink failed, once. It took less than the text, the front of it. No memory is asked for.
-pub fn write_scan<S: Sink>(
+fn write_scan<S: Sink>(
     sink: &mut S,
     counts: &Counts,
     names: &ScanNames<'_>,
@@ -118,4 +105,64 @@ pub fn write_scan<S: Sink>(
     named_place_lines(sink, names.locations, places)?;
     write_races(sink, names, races)?;
     tail(sink)
+}
+
+/// What was found in a text that has no fault.
+pub struct FoundScan {
+    /// The counts of the trace, and the names of its threads, locks and variables.
+    pub reader: EventReader,
+    /// The different locations of its accesses.
+    pub locations: OwnedNames,
+    /// Whether races are told apart by their variable too.
+    pub by_variable: bool,
+    /// Its nearest races, in order.
+    pub races: Vec<FoundRace>,
+    /// Their places, by the numbers of their locations.
+    pub places: PlaceTable,
+}
+
+impl Drop for FoundScan {
+    fn drop(self) {
+        let FoundScan {
+            reader: _,
+            locations: _,
+            by_variable: _,
+            races: _,
+            places: _,
+        } = self;
+    }
+}
+
+/// How many events, threads, locks and variables were numbered.
+fn counts_of(numbering: &Numbering) -> Counts
+    ensures { result ≡ counts_in numbering.now }
+{
+    Counts {
+        events: u64::from(numbering.events()),
+        threads: numbering.threads().len() as u64,
+        locks: numbering.locks().len() as u64,
+        variables: numbering.variables().len() as u64,
+    }
+}
+
+/// Writes the scan of the text that this was found in, the list report of its nearest races.
+///
+/// # Errors
+///
+/// [`Failed`]: the sink failed, once. It took less than the scan, the front of it. No memory is asked for.
+pub fn write_found<K: Sink>(sink: &mut K, found: &FoundScan) -> Result<(), Failed>
+    requires countable { K.failure_count sink.old < 2 ^ 64 - 1 }
+    requires found { (text : List ℕ) × IsFoundIn text found.now }
+    ensures written { (text : List ℕ) (in_text : IsFoundIn text found.now) → Writes (K.taken sink.old) (K.taken sink.new) result
+        (listing_bytes in_text.trace (map ends_of found.now.races.items)) }
+    ensures counted { IsCounted (K.failure_count sink.old) (K.failure_count sink.new) result }
+{
+    let numbering = found.reader.numbering();
+    let counts = counts_of(numbering);
+    let names = ScanNames {
+        threads: numbering.threads(),
+        variables: numbering.variables(),
+        locations: &found.locations,
+    };
+    write_scan(sink, &counts, &names, &found.places, found.races.as_slice())
 }

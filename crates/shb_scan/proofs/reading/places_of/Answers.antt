@@ -2,7 +2,7 @@
 use Rattle.shb_scan.proofs.Words.{AreKeyed, FoundAccess, FoundRace, Keyed, Pair, ends_of, pair_of, places_after, take_all}
 use Rattle.std.proofs.Common.{◌+◌, ◌-◌, ◌^◌, List, [], false, arith, get_or, subst, sym}
 use Rattle.shb_scan.proofs.CountedPlaces.{AreFew, few_counted, few_more, key_of, many_pairs, one_race_more, pairs_of}
-use Rattle.shb_scan.proofs.counting.places_of.Goals as goal
+use Rattle.shb_scan.proofs.reading.places_of.Goals as goal
 
 -- what stands past the end of a list of races
 past : FoundRace

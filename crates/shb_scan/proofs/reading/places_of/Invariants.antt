@@ -2,7 +2,7 @@ use Rattle.std.specs.Prelude.{All}
 use Rattle.shb_scan.proofs.Words.{AreKeyed, IsDistinct, IsRaceLocated, TraceData, bytes_eq, places_after}
 use Rattle.std.proofs.Common.{ℕ, List, [], take}
 use Rattle.shb_scan.proofs.CountedPlaces.{AreFew, pairs_of}
-use Rattle.shb_scan.proofs.counting.places_of.Given as goal
+use Rattle.shb_scan.proofs.reading.places_of.Given as goal
 
 abbrev pub invariant-loop-race : goal.invariant-loop-race
 invariant-loop-race g l = record {

@@ -2,7 +2,7 @@
 use Rattle.std.proofs.Common.{◌∙◌, List, ap, map, refl, subst, sym}
 use Rattle.shb_scan.proofs.Words.{AreKeyed, FoundRace, Numbering, Writes, counts_in, ends_of, listing_bytes, places_in}
 use Rattle.shb_scan.proofs.Listed.{counts_are, have_names, made_of}
-use Rattle.shb_scan.proofs.found.write_found.Goals as goal
+use Rattle.shb_scan.proofs.writing.write_found.Goals as goal
 
 pub write_scan-requires-clause-named : goal.write_scan-requires-clause-named
 write_scan-requires-clause-named g c =
