@@ -3,11 +3,9 @@ ghost use Rattle.std.specs.Prelude.{◌≡◌};
 
 use crate::beginning::Begun;
 use crate::complaints::{
-    FAILED, Reasoned, STANDARD_INPUT, STANDARD_OUTPUT, cannot, tell_refused_random,
+    FAILED, Reasoned, STANDARD_INPUT, STANDARD_OUTPUT, cannot, flushed, tell_refused_random,
 };
-use crate::output::flushed;
 use crate::refusals::{Ending, explain};
-use crate::tail::Tailed;
 use shb_io::{FromRead, Source, ToWrite};
 use shb_lines::MOST_BYTES;
 use shb_run::{RunError, Verdict, check, status_of_check};
@@ -16,14 +14,58 @@ use std::io::{Error, Read, Take, writer};
 use std::random::RandomSource;
 use std::rt::Files;
 
+/// How every report ends.
+const END: [u8; 5] = *b"\nend\n";
+
+/// A reader that keeps the last bytes that it gave, and else is the reader inside.
+#[derive(Drop)]
+pub(crate) struct Tailed<Q> {
+    reader: Q,
+    tail: [u8; 5],
+}
+
+impl<Q: Read> Tailed<Q> {
+    /// The same reader. Nothing was given.
+    pub(crate) fn new(reader: Q) -> Tailed<Q> {
+        Tailed {
+            reader,
+            tail: [0; 5],
+        }
+    }
+
+    /// The reader inside.
+    pub(crate) fn reader(&self) -> &Q {
+        &self.reader
+    }
+
+    /// Whether what was given ends as every report does.
+    pub(crate) fn has_end(&self) -> bool {
+        self.tail.as_slice() == END.as_slice()
+    }
+}
+
+/// Takes a byte behind the last bytes, in place of the first of them.
+fn push(tail: &mut [u8; 5], byte: u8) {
+    tail.copy_within(1..5, 0);
+    tail[4] = byte;
+}
+
+impl<Q: Read> Read for Tailed<Q> {
+    ghost remaining = { λ s. Q.remaining s.reader };
+
+    fn read(&mut self, buf: &mut [u8]) -> std::io::Result<usize> {
+        let count = self.reader.read(buf)?;
+        for byte in &buf[count.saturating_sub(5)..count] {
+            push(&mut self.tail, *byte);
+        }
+        Ok(count)
+    }
+}
+
 /// Why standard input can't be read, where it is closed. A file that is opened while it is takes its number, and would
 /// be read in its place.
 fn closed<R: Input>(rt: &R) -> Option<Error> {
-    let mut reader = rt.reader();
-    match reader.read(&mut []) {
-        Ok(_) => None,
-        Err(reason) => Some(reason),
-    }
+    rt.reader().read(&mut []).err()
 }
 
 /// Says of a report that is longer than a check reads, and to a user who watches of one that is cut off, why its verdict

@@ -1,8 +1,8 @@
 //! What the program says on standard error, and the statuses that no run and no check gives. A failure of standard
-//! error is passed over.
-ghost use Rattle.std.specs.Prelude.{◌≡◌};
+//! error is passed over, one of standard output after a run isn't.
+ghost use Rattle.std.specs.Prelude.{◌≡◌, Ok, Err, IfOk, IfErr, ◌⊎◌};
 
-use shb_io::Keys;
+use shb_io::{Keys, ToWrite};
 use std::io::{Error, Read, Write};
 use std::random::RandomSource;
 
@@ -98,5 +98,24 @@ impl<D: Write> Write for Reasoned<D> {
         let answer = self.device.flush();
         self.reason = answer.err();
         answer
+    }
+}
+
+/// Flushes what a run or a check has written, where it went well. A flush that fails is a sink that failed,
+/// with the error that is given for that.
+pub(crate) fn flushed<T: Drop, E: Drop, W: Write + Drop>(
+    answer: Result<T, E>,
+    sink: ToWrite<W>,
+    failed: E,
+) -> Result<T, E>
+    ensures well { IfOk result (λ value. answer ≡ Ok value) }
+    ensures bad { IfErr result (λ error. (answer ≡ Err error) ⊎ (error ≡ failed)) }
+{
+    match answer {
+        Ok(value) => match sink.finish() {
+            Ok(()) => Ok(value),
+            Err(_) => Err(failed),
+        },
+        Err(error) => Err(error),
     }
 }

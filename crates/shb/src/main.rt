@@ -5,9 +5,7 @@
 mod beginning;
 mod checks;
 mod complaints;
-mod output;
 mod refusals;
-mod tail;
 mod traces;
 
 use crate::checks::follow_check;

@@ -55,11 +55,7 @@ impl Ending {
     pub(crate) fn with_way_out(self, way_out: Option<WayOut>) -> Ending
         ensures { result.status ≡ self.status }
     {
-        Ending {
-            status: self.status,
-            refusal: self.refusal,
-            way_out,
-        }
+        Ending { way_out, ..self }
     }
 
     /// Tells a user of a refused trace the way out, and gives the program's status.
@@ -134,19 +130,17 @@ impl Ending {
 
 /// The front of some bytes of a trace in backquotes. What doesn't print is escaped.
 #[derive(Clone, Copy)]
-struct Quoted<'l> {
-    bytes: &'l [u8],
-}
+struct Quoted<'l>(&'l [u8]);
 
 impl Display for Quoted<'_> {
     fn fmt<W: fmt::Write>(&self, f: &mut Formatter<W>) -> fmt::Result {
-        if self.bytes.len() > SHOWN {
-            let (front, _) = self.bytes.split_at(SHOWN);
+        if self.0.len() > SHOWN {
+            let (front, _) = self.0.split_at(SHOWN);
             return write!(f, "`{}..`", front.escape_ascii());
         }
-        match from_utf8(self.bytes) {
+        match from_utf8(self.0) {
             Ok(text) => write!(f, "`{}`", text.escape_debug()),
-            Err(_) => write!(f, "`{}`", self.bytes.escape_ascii()),
+            Err(_) => write!(f, "`{}`", self.0.escape_ascii()),
         }
     }
 }
@@ -201,11 +195,8 @@ fn line_of<F: Read + Seek>(alloc: Global, file: &mut F, number: u64) -> Option<L
         return None;
     };
     let mut source = FromRead::new(file);
-    if read_to(&mut lines, &mut source, number) {
-        Some(lines)
-    } else {
-        None
-    }
+    let is_there = read_to(&mut lines, &mut source, number);
+    is_there.then_some(lines)
 }
 
 /// Whether a line is one that the refused line can't follow: an acquire of its lock, or what its thread did before.
@@ -269,11 +260,7 @@ fn earlier_in<S: Source>(
             _ => return None,
         }
     }
-    if search.depth == 0 {
-        None
-    } else {
-        Some(search.line)
-    }
+    (search.depth != 0).then_some(search.line)
 }
 
 /// The line of a file that the refused one can't follow, as the one that `Lines` gave last, and its number.
@@ -287,27 +274,17 @@ fn earlier_of<F: Read + Seek>(
         return None;
     };
     let mut source = FromRead::new(&mut *file);
-    let Some(number) = earlier_in(&mut lines, &mut source, refusal, refused) else {
-        return None;
-    };
-    match line_of(alloc, file, number) {
-        Some(lines) => Some((number, lines)),
-        None => None,
-    }
+    let number = earlier_in(&mut lines, &mut source, refusal, refused)?;
+    let lines = line_of(alloc, file, number)?;
+    Some((number, lines))
 }
 
 /// Says on standard error what the line before the refused one did that it can't follow.
 fn tell_earlier<R: Eprint>(rt: &R, refusal: Refusal, refused: Parts<'_>, number: u64, line: &[u8]) {
-    let name = Quoted {
-        bytes: refused.name,
-    };
-    let thread = Quoted {
-        bytes: refused.thread,
-    };
-    let holder = Quoted {
-        bytes: parts_of(line).thread,
-    };
-    let line = Quoted { bytes: line };
+    let name = Quoted(refused.name);
+    let thread = Quoted(refused.thread);
+    let holder = Quoted(parts_of(line).thread);
+    let line = Quoted(line);
     let _ = match refusal.fault {
         Fault::LockHeld | Fault::NotHeld => {
             eprintln!(rt; "{name} is held by {holder} since line {number}: {line}")
@@ -328,17 +305,10 @@ pub(crate) fn explain<R: Eprint + AllocGlobal, F: Read + Seek>(
     let Some(lines) = line_of(rt.alloc(), file, refusal.line) else {
         return;
     };
-    let _ = eprintln!(rt;
-        "the line is {}",
-        Quoted {
-            bytes: lines.line()
-        }
-    );
+    let _ = eprintln!(rt; "the line is {}", Quoted(lines.line()));
     let refused = parts_of(lines.line());
     if refusal.fault == Fault::UnknownOperation {
-        let word = Quoted {
-            bytes: refused.word,
-        };
+        let word = Quoted(refused.word);
         let _ = eprintln!(rt; "{word} is none of r, w, acq, rel, fork, join, begin and end");
     }
     if let Some((number, earlier)) = earlier_of(rt.alloc(), file, refusal, refused) {

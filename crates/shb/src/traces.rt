@@ -3,9 +3,9 @@ ghost use Rattle.std.specs.Prelude.{◌≡◌};
 
 use crate::beginning::Begun;
 use crate::complaints::{
-    FAILED, Reasoned, STANDARD_INPUT, STANDARD_OUTPUT, cannot, complain, tell_refused_random,
+    FAILED, Reasoned, STANDARD_INPUT, STANDARD_OUTPUT, cannot, complain, flushed,
+    tell_refused_random,
 };
-use crate::output::flushed;
 use crate::refusals::{Ending, explain};
 use shb_io::{FromRead, Source, ToWrite};
 use shb_run::{RunError, ScanError, Settings, Summary, run, run_places, run_scan};

@@ -6,13 +6,9 @@
 #![tactic(auto)]
 
 mod errors;
-mod judging;
 pub mod laws;
-mod statuses;
 mod verdicts;
 
-pub use errors::RunError;
-pub use judging::{judge, read_trace};
+pub use errors::{RunError, exit_status, fault_line, status_of_check};
 pub use shb_judging::{RaceFault, Verdict};
-pub use statuses::{exit_status, fault_line, status_of_check};
-pub use verdicts::check;
+pub use verdicts::{check, judge, read_trace};

@@ -1,18 +1,51 @@
-//! Judges the blocks of a report one after another.
+//! Judges the blocks of a report one after another, by the positions that the numbers of their schedules stand for.
 ghost use Rattle.std.specs.Prelude.{◌≡◌, ◌+◌, ◌-◌, ◌<◌, ◌≤◌, ◌↔◌, ◌^◌, ◌++◌, ◌∷◌, [], ℕ, List, None, IfErr, IfOk, IsTrue, MatchResult, OnOk, map, take};
 ghost use Rattle.shb_judging.specs.Judging.{AreJudged, first_positions};
 ghost use Rattle.shb_reading.specs.Parts.{block_with};
 ghost use Rattle.shb_format.specs.Value.{Block};
 ghost use Rattle.shb_judging.specs.Verdicts.{HasGoodPair, IsGoodBlock, IsLowestFault, pair_in, position_of};
 
-use crate::positions::position_of;
 use crate::verdict::RaceFault;
 use shb_discipline::Disciplined;
 use shb_io::NoMemory;
 use shb_lines::{Pair, Trace, conflicts};
-use shb_reading::BlockLines;
+use shb_reading::{BlockLines, Keeping};
 use shb_replay::Judge;
 use std::alloc::Global;
+
+/// The position that a number of a schedule stands for, in a trace of so many events.
+fn position_of(count: u32, number: u64) -> u32
+    ensures { result ≡ position_of count number }
+{
+    if number == 0 || number > u64::from(count) {
+        return count;
+    }
+    (number - 1) as u32
+}
+
+/// Keeps the positions that numbers stand for, in a trace of so many events: of one number more than there
+/// are events. Of a list with more numbers, which is no schedule, they tell where it isn't one: one of them
+/// is no event, or stands there twice.
+#[derive(Clone, Copy)]
+pub(crate) struct AsPositions {
+    pub count: u32,
+}
+
+impl Keeping for AsPositions {
+    type Kept = u32;
+
+    ghost kept = { λ k n. position_of k.count n };
+
+    ghost most_kept = { λ k. k.count + 1 };
+
+    fn most(&self) -> u64 {
+        u64::from(self.count) + 1
+    }
+
+    fn keep(&self, number: u64) -> u32 {
+        position_of(self.count, number)
+    }
+}
 
 /// What is known of the blocks that were judged so far: the lowest fault of the first bad one, and the
 /// pairs of those before it.

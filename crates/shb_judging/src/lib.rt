@@ -9,12 +9,9 @@
 mod checking;
 mod judged;
 pub mod laws;
-mod positions;
 mod text;
 mod verdict;
-mod verdict_writer;
 
 pub use checking::check_report;
 pub use text::judge_report;
-pub use verdict::{RaceFault, Verdict};
-pub use verdict_writer::verdict_line;
+pub use verdict::{RaceFault, Verdict, verdict_line};

@@ -10,8 +10,7 @@ ghost use Rattle.shb_reading.specs.Lines.{IfBad, IfStop, IsAt, IsBadAt, Passes, 
 ghost use Rattle.shb_reading.specs.Reading.{IsBadLine};
 
 use crate::checking::verdict_on;
-use crate::judged::{JudgedBlocks, judge_block};
-use crate::positions::AsPositions;
+use crate::judged::{AsPositions, JudgedBlocks, judge_block};
 use crate::verdict::Verdict;
 use shb_discipline::Disciplined;
 use shb_io::{NoMemory, Source};

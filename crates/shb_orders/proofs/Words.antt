@@ -12,9 +12,7 @@ pub use Rattle.shb_lines.specs.events.Discipline.{IsDisciplined, is_of, local_ti
 pub use Rattle.shb_lines.specs.events.Events.{op_at, thread_at}
 pub use Rattle.shb_lines.specs.events.Order.{IsBelowPredCount, IsNumberOf, IsPred, LastWrite, ShbBelow, ShbEdge, here, read_from, step}
 pub use Rattle.shb_lines.specs.events.Sizes.{IsWithin}
-pub use Rattle.shb_orders.specs.Learned.{AreLearnedTimes, IsLearning, LearnsAt, acquires, first, joins, reads}
-pub use Rattle.shb_orders.specs.Marks.{IsRowOf, MarksFrom}
-pub use Rattle.shb_orders.specs.Rows.{AreEach, IsClockBefore}
+pub use Rattle.shb_orders.specs.Rows.{AreEach, AreLearnedTimes, IsClockBefore, IsLearning, IsRowOf, LearnsAt, MarksFrom, acquires, first, joins, reads}
 pub use Rattle.shb_stamps.proofs.Locals.{local_is, time_at, time_order, time_rises, time_within}
 pub use Rattle.std.proofs.Math.ListN.{get_or-append, get_or-replicate, length-replicate, length-set, set}
 pub use Rattle.std.proofs.lemmas.Bool.{cases_Bool, cases_eq, cases_lt, eq-eqb, eqb-true}

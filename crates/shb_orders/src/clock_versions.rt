@@ -1,20 +1,47 @@
 //! An order by clocks that are kept only where a thread learns of others.
 
-ghost use Rattle.std.specs.Prelude.{◌≡◌, ℕ, ◌<◌, true, All, Contains, List, IfOk, length, slice_index_or, []};
+ghost use Rattle.std.specs.Prelude.{◌≡◌, ℕ, ◌<◌, true, All, Contains, List, IfOk, length, slice_index_or, [], ◌↔◌, IsTrue};
 ghost use Rattle.shb_lines.specs.declared.event.Event.{Event};
 ghost use Rattle.shb_stamps.specs.Listed.{is_listed};
-ghost use Rattle.shb_orders.specs.Learned.{AreLearnedTimes};
-ghost use Rattle.shb_orders.specs.Rows.{AreEach};
+ghost use Rattle.shb_orders.specs.Rows.{AreEach, AreLearnedTimes, IsLearning};
 
-use crate::learning::learned_times;
 use crate::row::Row;
 use shb_discipline::Disciplined;
 use shb_io::NoMemory;
-use shb_lines::Event;
+use shb_lines::{Event, Op};
 use shb_links::{Linked, Links};
 use shb_stamps::{ListedRows, Order, at_events};
 use std::alloc::Global;
 use std::marker::Model;
+
+/// Whether it is the first event of its thread, an acquire, a join, or a read of a last write.
+fn may_learn(linked: &Linked<'_>, e: u32) -> bool
+    requires in_range { e < length linked.now.events.now }
+    ensures { IsTrue result ↔ IsLearning linked.now.events.now e }
+{
+    if linked.links.local(e) == 1 {
+        return true;
+    }
+    match linked.events.op(e) {
+        Op::Acquire(_) => true,
+        Op::Join(_) => true,
+        Op::Read(_) => linked.links.last_write(e).is_some(),
+        _ => false,
+    }
+}
+
+/// The local times at which a thread may learn of others.
+fn learned_times(alloc: Global, linked: &Linked<'_>, t: u32) -> Result<Row<u32>, NoMemory>
+    ensures { IfOk result (AreLearnedTimes linked.now.events.now t) }
+{
+    let mut times = Vec::new(alloc);
+    for e in 0..linked.events.len() as u32 {
+        if linked.events.thread(e) == t && may_learn(linked, e) {
+            times.push(linked.links.local(e))?;
+        }
+    }
+    Ok(Row::new(times))
+}
 
 /// An order by vector clocks that are kept only where a thread learns of others. Contracts see it
 /// as the list of events of the trace that it orders. It may be shared between threads.
@@ -30,7 +57,7 @@ impl<'a> Model for ClockVersions<'a> {
     ghost use Rattle.std.specs.Prelude.{ℕ, ◌≡◌, ◌<◌, true, List, [], length, slice_index_or};
     ghost use Rattle.shb_lines.specs.declared.event.Event.{Event};
     ghost use Rattle.shb_stamps.specs.Listed.{is_listed};
-    ghost use Rattle.shb_orders.specs.Learned.{AreLearnedTimes};
+    ghost use Rattle.shb_orders.specs.Rows.{AreLearnedTimes};
 
     ghost Value = { List Event };
 

@@ -8,9 +8,7 @@
 #![tactic(auto)]
 
 mod clock_versions;
-mod edges;
 mod full_clocks;
-mod learning;
 mod plain_order;
 mod row;
 

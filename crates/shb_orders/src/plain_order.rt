@@ -3,19 +3,68 @@
 ghost use Rattle.std.specs.Prelude.{◌≡◌, ℕ, ◌+◌, ◌<◌, ◌≤◌, ◌^◌, Bool, true, false, List, IsTrue, IfOk, ◌↔◌, length, slice_index_or, replicate};
 ghost use Rattle.shb_lines.specs.declared.event.Event.{Event};
 ghost use Rattle.shb_lines.specs.events.Events.{thread_at};
-ghost use Rattle.shb_lines.specs.events.Order.{ShbBelow, IsNumberOf};
-ghost use Rattle.shb_orders.specs.Marks.{MarksFrom, IsRowOf};
-ghost use Rattle.shb_orders.specs.Rows.{AreEach};
+ghost use Rattle.shb_lines.specs.events.Order.{ShbBelow, IsNumberOf, ShbEdge};
+ghost use Rattle.shb_orders.specs.Rows.{MarksFrom, IsRowOf, AreEach};
+ghost use Rattle.shb_lines.specs.events.Discipline.{op_is_fork, op_is_join};
+ghost use Rattle.shb_lines.specs.events.Tests.{is_hb_rule, passes_lock};
 
-use crate::edges::is_edge;
 use crate::row::Row;
 use shb_discipline::Disciplined;
 use shb_io::NoMemory;
-use shb_lines::Events;
+use shb_lines::{Event, Events, Op};
 use shb_links::{Linked, Links};
 use shb_stamps::Order;
 use std::alloc::Global;
 use std::marker::Model;
+
+fn forks(op: Op, thread: u32) -> bool
+    ensures { result ≡ op_is_fork thread op }
+{
+    match op {
+        Op::Fork(forked) => thread == forked,
+        _ => false,
+    }
+}
+
+fn joins(op: Op, thread: u32) -> bool
+    ensures { result ≡ op_is_join thread op }
+{
+    match op {
+        Op::Join(joined) => thread == joined,
+        _ => false,
+    }
+}
+
+fn passes(first: Op, second: Op) -> bool
+    ensures { result ≡ passes_lock first second }
+{
+    match (first, second) {
+        (Op::Release(released), Op::Acquire(acquired)) => released == acquired,
+        _ => false,
+    }
+}
+
+/// Whether an earlier event happens before a later one by an edge.
+fn happens_first(e: Event, d: Event) -> bool
+    ensures { result ≡ is_hb_rule e d }
+{
+    e.thread == d.thread || passes(e.op, d.op) || forks(e.op, d.thread) || joins(d.op, e.thread)
+}
+
+/// Whether an SHB edge leads from a to b.
+fn is_edge(linked: &Linked<'_>, a: u32, b: u32) -> bool
+    requires earlier { a < b }
+    requires in_range { b < length linked.now.events.now }
+    ensures { IsTrue result ↔ ShbEdge linked.now.events.now a b }
+{
+    if happens_first(linked.events.event(a), linked.events.event(b)) {
+        return true;
+    }
+    match linked.links.last_write(b) {
+        Some(w) => w == a,
+        None => false,
+    }
+}
 
 /// An order by marks: which events are SHB-below the predecessor of each event. Contracts see it as
 /// the list of events of the trace that it orders. It may be shared between threads.

@@ -1,8 +1,7 @@
 -- Runs of accesses, and the races of a run one access at a time.
 use Rattle.shb_pairs.proofs.Words.{All-append, All-nil, All-push, Contains-get_or, Event, OpenTrace, Piece, access_from_test, accesses_at, accesses_in, append-nil, append_assoc, cases_Bool, cases_lt, common_steps, div_ceil, flat_map-append, get_or-drop, get_or_append_left, get_or_push, is_open, is_race, length-drop, length_push, listed_accesses, numbered_piece, numbers_listed, piece_at, pieces_in, races_with, reflect_race, take-append-le, take_at, take_more, test_from_access, variable_at, variables_in}
-use Rattle.shb_pairs.specs.Open.{AsksOpen}
+use Rattle.shb_pairs.specs.Races.{AsksOpen, first_pieces, pieces_below, races_at, races_of}
 use Rattle.shb_lines.specs.events.Reach.{numbers_where}
-use Rattle.shb_pairs.specs.Races.{first_pieces, pieces_below, races_at, races_of}
 use Rattle.std.proofs.Common.{◌≡◌, ℕ, zero, suc, ◌+◌, ◌-◌, ◌*◌, ◌<◌, ◌≤◌, ◌⊎◌, inl, inr, Bool, true, false, List, [], ◌∷◌, ◌++◌, Some, length, get_or, take, drop, refl, arith, subst, ap, sym, ◌∙◌, add-one}
 use Rattle.std.specs.Prelude.{All, flat_map, min, cond, slice_range}
 

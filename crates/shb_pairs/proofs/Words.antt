@@ -7,9 +7,8 @@ pub use Rattle.shb_lines.specs.events.Order.{BelowPred}
 pub use Rattle.shb_lines.specs.events.Race.{Conflict, IsRaceList, Race, ends, variable_at}
 pub use Rattle.shb_lines.specs.events.Reach.{is_below_pred, is_race}
 pub use Rattle.shb_lines.specs.events.Sizes.{IsNumberedByAccess}
-pub use Rattle.shb_pairs.specs.Accesses.{HasAccesses, listed_accesses}
-pub use Rattle.shb_pairs.specs.Races.{AreRacesOfPiece, first_pieces, joined, numbered_piece, piece_at, pieces_below, pieces_in}
-pub use Rattle.shb_pairs.specs.declared.piece.Piece.{Piece}
+pub use Rattle.shb_pairs.specs.Races.{AreRacesOfPiece, HasAccesses, first_pieces, joined, listed_accesses, numbered_piece, piece_at, pieces_below, pieces_in}
+pub use Rattle.shb_pairs.specs.declared.accesses.Piece.{Piece}
 pub use Rattle.shb_stamps.proofs.Accesses.{access_from_test, key_no, next_variable, numbers_all, numbers_few, numbers_more_no, numbers_more_yes, test_from_access, variable_within, variables_few}
 pub use Rattle.shb_stamps.proofs.Listing.{all_is_race_list, all_races, numbers_below, piece_rises, race_contained, race_parts, races_on, races_on_parts}
 pub use Rattle.shb_stamps.specs.Accesses.{accesses_at, accesses_in, races_with, variables_in}

@@ -1,12 +1,26 @@
--- The pieces that the accesses of each variable are cut into, and the races of a piece: those whose later access is among its accesses.
-use Rattle.std.specs.Prelude.{◌≡◌, ℕ, zero, suc, ◌+◌, ◌-◌, ◌*◌, ◌<◌, ◌↔◌, min, List, [], ◌∷◌, ◌++◌, AllPairs, Contains, map, flat_map, length, slice_index_or, slice_range}
+-- The accesses of open variables, the pieces that they are cut into, and the races of a piece: those whose later access is among its accesses.
+use Rattle.std.specs.Prelude.{◌≡◌, ℕ, zero, suc, ◌+◌, ◌-◌, ◌*◌, ◌<◌, ◌↔◌, min, List, [], ◌∷◌, ◌++◌, AllPairs, Contains, map, flat_map, length, slice_index_or, slice_range, Bool, true, Some, cond}
 use Rattle.std.specs.Int.{div_ceil}
 use Rattle.shb_lines.specs.declared.event.Event.{Event}
-use Rattle.shb_lines.specs.events.Race.{Race}
-use Rattle.shb_stamps.specs.Open.{OpenTrace}
-use Rattle.shb_pairs.specs.declared.piece.Piece.{Piece}
-use Rattle.shb_stamps.specs.Accesses.{PairBefore, accesses_in, races_with, variables_in}
-use Rattle.shb_pairs.specs.Accesses.{listed_accesses}
+use Rattle.shb_lines.specs.events.Race.{Race, variable_at}
+use Rattle.shb_stamps.specs.Open.{OpenTrace, is_open}
+use Rattle.shb_pairs.specs.declared.accesses.Piece.{Piece}
+use Rattle.shb_stamps.specs.Accesses.{PairBefore, accesses_at, accesses_in, races_with, variables_before, variables_in}
+use Rattle.std.specs.Global.{Vec}
+use Rattle.shb_lines.specs.events.Reach.{numbers_where}
+
+-- each access of an open variable is an event that an order can be asked about
+abbrev pub AsksOpen : (ℕ → Bool) → List Bool → List Event → Type 0
+AsksOpen asks flags trace = (e x : ℕ) → variable_at trace e ≡ Some x → is_open flags x ≡ true → asks e ≡ true
+
+-- the accesses of x that are listed: all of an open variable, and else none
+abbrev pub listed_accesses : OpenTrace → ℕ → List ℕ
+listed_accesses a x = cond (is_open a.flags x) (accesses_in a.trace x) []
+
+-- there is a list for each variable accessed before position n, of its accesses before n
+pub record HasAccesses (trace : List Event) (n : ℕ) (lists : List (Vec ℕ)) : Type 0 where
+  pub as_many : length lists ≡ variables_before trace n
+  pub each : (x : ℕ) (d : Vec ℕ) → x < length lists → (slice_index_or lists x d).items ≡ numbers_where (accesses_at trace x) n
 
 -- how many accesses a piece has at most
 abbrev pub piece_length : ℕ

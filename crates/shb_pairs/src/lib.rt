@@ -10,10 +10,6 @@
 mod accesses;
 mod job;
 pub mod laws;
-mod piece;
-mod race;
 
-pub use accesses::{Accesses, accesses_of};
-pub use job::PairJob;
-pub use piece::{Piece, pieces};
-pub use race::is_race;
+pub use accesses::{Accesses, Piece, accesses_of, pieces};
+pub use job::{PairJob, is_race};

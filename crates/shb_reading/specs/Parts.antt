@@ -6,7 +6,7 @@ use Rattle.shb_reading.specs.declared.listed.BlockLines.{BlockLines}
 use Rattle.shb_reading.specs.declared.listed.Listed.{Listed}
 use Rattle.shb_reading.specs.declared.parts.Span.{Span}
 use Rattle.shb_reading.specs.declared.parts.Parts.{Parts}
-use Rattle.shb_reading.specs.declared.whole.Head.{Head}
+use Rattle.shb_reading.specs.declared.entries.Head.{Head}
 use Rattle.shb_reading.specs.declared.parts.RaceEntry.{RaceEntry}
 use Rattle.shb_reading.specs.declared.parts.PlaceEntry.{PlaceEntry}
 use Rattle.shb_reading.specs.declared.position.Position.{Position}

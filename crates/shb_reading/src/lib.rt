@@ -17,7 +17,6 @@
 mod entries;
 mod grammar;
 mod keeping;
-mod labels;
 pub mod laws;
 mod lines;
 mod listed;
@@ -25,12 +24,10 @@ mod parts;
 mod position;
 mod report;
 mod schedule;
-mod whole;
 
-pub use entries::read_block;
+pub use entries::{read_block, read_head, read_places, read_tail};
 pub use keeping::Keeping;
 pub use listed::{BlockLines, Section, bytes_in, lines_at, section_of};
 pub use parts::PlaceEntry;
 pub use position::{Position, ReadStop};
 pub use report::{Report, ReportError, read_report, read_report_within};
-pub use whole::{read_head, read_places, read_tail};

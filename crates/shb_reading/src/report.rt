@@ -8,10 +8,10 @@ ghost use Rattle.shb_reading.specs.Lines.{IfBad, IfStop};
 ghost use Rattle.shb_reading.specs.Parts.{ArePartsIn, block_in, bytes_at, report_at};
 ghost use Rattle.shb_reading.specs.Reading.{IfBadLine, IsBadLine, IsReportText, report_read_failed};
 
+use crate::entries::scan;
 use crate::listed::{Listed, Section, bytes_in, listed_at, numbers_in, section_of};
 use crate::parts::Parts;
 use crate::position::ReadStop;
-use crate::whole::scan;
 use shb_format::Counts;
 use shb_io::{NoMemory, Source};
 use shb_lines::{MOST_BYTES, ReadError, read_whole};

@@ -4,8 +4,8 @@ ghost use Rattle.std.specs.List.{AllByRecursion};
 ghost use Rattle.shb_reading.specs.Lines.{AddsShown};
 ghost use Rattle.shb_format.specs.Value.{IsShown, listed, numbers_line};
 
+use crate::grammar::{after_label, labelled};
 use crate::keeping::Keeping;
-use crate::labels::{after_label, labelled};
 use shb_io::NoMemory;
 
 /// Adds what is kept of a number that stands after so many others.

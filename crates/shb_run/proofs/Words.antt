@@ -18,8 +18,7 @@ pub use Rattle.shb_lists.proofs.GivenLemmas.{pairs_race, race_of_trace, races_of
 pub use Rattle.shb_lists.specs.Listed.{pair_in}
 pub use Rattle.shb_lists.specs.PlaceRaces.{HaveNearest}
 pub use Rattle.shb_lists.specs.declared.list.RaceList.{RaceList}
-pub use Rattle.shb_run.specs.Outcomes.{HasSummed, IsOutcome}
-pub use Rattle.shb_run.specs.Runs.{HasTrace, IsReported, ListedBy, ListsPlaces, ListsRaces, ListsSchedulable, ReportsTrace, summary_of}
+pub use Rattle.shb_run.specs.Outcomes.{HasSummed, HasTrace, IsOutcome, IsReported, ListedBy, ListsPlaces, ListsRaces, ListsSchedulable, ReportsTrace, summary_of}
 pub use Rattle.shb_run.specs.declared.settings.Choice.{Choice}
 pub use Rattle.shb_run.specs.declared.settings.Choice.TheVariants.{All, Nearest}
 pub use Rattle.shb_run.specs.declared.settings.Summary.{Summary}

@@ -8,7 +8,7 @@ ghost use Rattle.shb_judging.specs.Verdicts.{IsVerdict};
 ghost use Rattle.shb_judging.specs.declared.verdict.Verdict.{Verdict};
 ghost use Rattle.shb_judging.specs.declared.verdict.Verdict.TheVariants.{Good};
 ghost use Rattle.shb_check.specs.Checks.{IsVerdictOf};
-ghost use Rattle.shb_run.specs.Runs.{IsReported, ListedBy};
+ghost use Rattle.shb_run.specs.Outcomes.{IsReported, ListedBy};
 ghost use Rattle.shb_run.specs.declared.settings.Choice.{Choice};
 ghost use Rattle.shb_run.specs.declared.settings.Summary.{Summary};
 

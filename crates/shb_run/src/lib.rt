@@ -11,11 +11,9 @@
 pub mod laws;
 mod lists;
 mod pipeline;
-mod places;
 mod settings;
 
-pub use pipeline::{run, run_gated};
-pub use places::run_places;
+pub use pipeline::{run, run_gated, run_places};
 pub use settings::{Settings, Summary};
 pub use shb_check::{
     RaceFault, RunError, Verdict, check, exit_status, fault_line, status_of_check,

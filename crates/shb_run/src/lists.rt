@@ -3,7 +3,7 @@ ghost use Rattle.std.specs.Prelude.{◌≡◌, ◌<◌, ℕ, All, IfOk, List, if
 ghost use Rattle.shb_lines.specs.events.Race.{ends};
 ghost use Rattle.shb_lists.specs.Given.{ListsRaces};
 ghost use Rattle.shb_lists.specs.Listed.{pair_in};
-ghost use Rattle.shb_run.specs.Runs.{ListedBy};
+ghost use Rattle.shb_run.specs.Outcomes.{ListedBy};
 ghost use Rattle.shb_run.specs.declared.settings.Choice.TheVariants.{All as AllRaces, Nearest};
 
 use crate::settings::Choice;

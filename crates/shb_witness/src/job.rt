@@ -1,10 +1,11 @@
-//! The schedules of races as work in pieces.
+//! The schedules of races as work in pieces, and the order of a trace that they are made with.
 
-ghost use Rattle.std.specs.Prelude.{◌≡◌, ℕ, IfSome, List, length};
+ghost use Rattle.std.specs.Prelude.{◌≡◌, ℕ, IfSome, List, length, ◌↔◌, Contains, IfOk};
 ghost use Rattle.shb_lines.specs.events.Race.{Race};
 ghost use Rattle.shb_lines.specs.declared.event.Event.{Event};
 ghost use Rattle.shb_lines.specs.declared.event.Pair.{Pair};
-ghost use Rattle.shb_witness.specs.Schedules.{Asked, AreRaces, AsksEach, schedule_at};
+ghost use Rattle.shb_witness.specs.Schedules.{Asked, AreRaces, AsksEach, schedule_at, ends_of};
+ghost use Rattle.shb_stamps.specs.Listed.{is_listed};
 
 use crate::schedules::{schedule_alone, schedule_runs};
 use crate::threads::ThreadEvents;
@@ -12,12 +13,47 @@ use shb_discipline::Disciplined;
 use shb_fan::Job;
 use shb_io::NoMemory;
 use shb_lines::Pair;
-use shb_links::Links;
+use shb_links::{Linked, Links};
 use shb_positions::Positions;
-use shb_stamps::{Order, Ordered};
+use shb_stamps::{ListedRows, Order, Ordered, at_events};
 use std::alloc::Global;
 use std::collections::LinkedList;
 use std::marker::Model;
+
+/// The events of some pairs.
+fn events_of(alloc: Global, pairs: &[Pair]) -> Result<Vec<u32>, NoMemory>
+    ensures { IfOk result (λ events. events.items ≡ ends_of pairs.now) }
+{
+    let mut events = Vec::new(alloc);
+    for k in 0..pairs.len() {
+        let pair = pairs[k];
+        events.push(pair.first)?;
+        events.push(pair.second)?;
+    }
+    Ok(events)
+}
+
+/// The order of a trace at the events of these races, which is what their schedules are made with.
+/// Memory: at most 16 bytes and eight bytes a thread for each race, and while it is made the events
+/// once more and what a [`Sweep`](shb_stamps::Sweep) takes.
+///
+/// # Errors
+///
+/// `NoMemory` where memory is refused; nothing is kept then.
+pub fn order_of_races<'a>(
+    alloc: Global,
+    linked: Linked<'a>,
+    races: &[Pair],
+) -> Result<ListedRows<'a>, NoMemory>
+    requires races { AreRaces linked.events.now races.now }
+    ensures trace { IfOk result (λ order. order.trace ≡ linked.entry.events.now) }
+    ensures events { (e : ℕ) → IfOk result (λ order. Contains order.events e ↔ Contains (ends_of races.now) e) }
+    ensures asked { IfOk result (λ order. AsksEach (is_listed order.events) races.now) }
+{
+    let events = events_of(alloc, races)?;
+    let order = at_events(alloc, linked, events.as_slice())?;
+    Ok(order)
+}
 
 /// Makes the schedules of races: piece k is the printed schedule of race k, kept as runs. Contracts see it as the
 /// trace and its races, which fix every schedule.

@@ -11,14 +11,11 @@
 //! [`order_of_races`] is an order for the schedules of some races alone.
 #![tactic(auto)]
 
-mod cuts;
 mod job;
 pub mod laws;
-mod race_order;
 mod schedules;
 mod threads;
 
-pub use job::WitnessJob;
-pub use race_order::order_of_races;
+pub use job::{WitnessJob, order_of_races};
 pub use schedules::schedule;
 pub use threads::{ThreadEvents, thread_events};

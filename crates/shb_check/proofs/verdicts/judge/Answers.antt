@@ -1,5 +1,5 @@
 use Rattle.shb_check.proofs.Endings.{accepted_of, refused_of, stopped_of}
-use Rattle.shb_check.proofs.judging.judge.Goals as goal
+use Rattle.shb_check.proofs.verdicts.judge.Goals as goal
 
 pub returns-in_err-trace-clause-refused : goal.returns-in_err-trace-clause-refused
 returns-in_err-trace-clause-refused c = refused_of c.args.parsed.now.trace c.args.parsed.now.stop _ c.from_residual.result c.from_residual.ensures.1 c.in_err-trace.ensures.refused

@@ -1,4 +1,4 @@
-use Rattle.shb_check.proofs.judging.read_trace.Goals as goal
+use Rattle.shb_check.proofs.verdicts.read_trace.Goals as goal
 
 pub returns-clause-reading : goal.returns-clause-reading
 returns-clause-reading g c = rw c.standard.ensures at c.parse.ensures.reading

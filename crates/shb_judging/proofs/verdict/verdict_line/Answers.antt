@@ -3,7 +3,7 @@ use Rattle.std.proofs.Common.{ℕ, List, Option, Result, Ok, Err, subst, sym}
 use Rattle.std.specs.Prelude.{OnOk, OnErr}
 use Rattle.shb_judging.proofs.Words.{Appends, BadCounts, BadPlaces, Verdict, verdict_bytes}
 use Rattle.shb_io.specs.Devices.{AppendsPrefix, Writes}
-use Rattle.shb_judging.proofs.verdict_writer.verdict_line.Goals as goal
+use Rattle.shb_judging.proofs.verdict.verdict_line.Goals as goal
 
 writes_by : {T E : Type 0} (old new : Option (List ℕ)) (r : Result T E) (bytes : List ℕ) → OnOk r (Appends old new bytes) → OnErr r (AppendsPrefix old new bytes) → Writes old new r bytes
 writes_by old new (Ok x) bytes ok err = ok

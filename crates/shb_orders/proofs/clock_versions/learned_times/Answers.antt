@@ -1,8 +1,8 @@
 use Rattle.std.proofs.Common.{◌≡◌, ◌∙◌, Some, ap, arith, length, subst, sym}
 use Rattle.shb_orders.proofs.Words.{AreLearnedTimes, local_is}
 use Rattle.shb_orders.proofs.LearnedLemmas.{AreTimes, times_no, times_start, times_whole, times_yes}
-use Rattle.shb_orders.proofs.learning.learned_times.Goals as goal
-use Rattle.shb_orders.proofs.learning.learned_times.Goals.{then-thread-t+then-may_learn+in_ok-push, else-thread-t, else-thread-t-via-then-thread-t+else-may_learn, else-thread-t-via-else-thread-t}
+use Rattle.shb_orders.proofs.clock_versions.learned_times.Goals as goal
+use Rattle.shb_orders.proofs.clock_versions.learned_times.Goals.{then-thread-t+then-may_learn+in_ok-push, else-thread-t, else-thread-t-via-then-thread-t+else-may_learn, else-thread-t-via-else-thread-t}
 
 pub loop-e-init : goal.loop-e-init
 loop-e-init c = rw c.new-times.ensures.items (times_start c.args.linked.now.events.now c.args.t)

@@ -1,7 +1,7 @@
 use Rattle.std.proofs.Common.{Some, refl, ◌∙◌, ap, sym}
 use Rattle.shb_orders.proofs.Words.{Event, Read, acquires, joins, local_is, thread_item}
 use Rattle.shb_orders.proofs.MayLearn.{first_from_time, read_test, learning_other}
-use Rattle.shb_orders.proofs.learning.may_learn.Goals as goal
+use Rattle.shb_orders.proofs.clock_versions.may_learn.Goals as goal
 
 pub returns-then-local-eq1 : goal.returns-then-local-eq1
 returns-then-local-eq1 c =

@@ -1,7 +1,7 @@
 use Rattle.std.proofs.Common.{List, refl, sym, ◌∙◌, subst}
 use Rattle.shb_orders.proofs.Words.{Event, LastWrite, Read, ShbEdge, edge_by_rule, edge_by_write, eq-eqb, eqb-true, no_edge, read_from}
 use Rattle.shb_orders.proofs.MarksLemmas.{rule_read}
-use Rattle.shb_orders.proofs.edges.is_edge.Goals as goal
+use Rattle.shb_orders.proofs.plain_order.is_edge.Goals as goal
 
 abbrev no_event : Event
 no_event = record { thread = 0; op = Read 0; line = 0 }

@@ -3,7 +3,7 @@ use Rattle.shb_lines.proofs.events.Prefix.{below_pred_test}
 use Rattle.shb_pairs.proofs.Words.{Event}
 use Rattle.shb_lines.specs.events.Discipline.{local_time}
 use Rattle.shb_lines.specs.events.Events.{thread_at}
-use Rattle.shb_pairs.proofs.race.is_below_pred.Goals as goal
+use Rattle.shb_pairs.proofs.job.is_below_pred.Goals as goal
 
 -- an event is below the predecessor exactly where its local time is no higher than the order's answer
 pub returns : goal.returns

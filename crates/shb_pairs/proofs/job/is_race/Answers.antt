@@ -2,7 +2,7 @@
 use Rattle.shb_pairs.proofs.Words.{BelowPred, Conflict, Event, Race, common_steps, race_iff_schedulable}
 use Rattle.std.proofs.Common.{ℕ, ◌<◌, Bool, List, arith}
 use Rattle.std.specs.Prelude.{◌↔◌, IsTrue, not}
-use Rattle.shb_pairs.proofs.race.is_race.Goals as goal
+use Rattle.shb_pairs.proofs.job.is_race.Goals as goal
 
 unordered_is_race : (trace : List Event) (i j : ℕ) (below : Bool) → i < j → Conflict trace i j → IsTrue below ↔ BelowPred trace i j → IsTrue (not below) ↔ Race trace i j
 unordered_is_race trace i j below h also third = grind (arith, common_steps)

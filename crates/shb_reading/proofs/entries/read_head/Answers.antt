@@ -3,7 +3,7 @@ use Rattle.std.proofs.Common.{refl, [], ◌∷◌}
 use Rattle.shb_reading.proofs.Words.{CountsForm, Races, Version}
 use Rattle.shb_reading.proofs.Passing.{bad_at, passes_by}
 use Rattle.shb_reading.proofs.ScanLemmas.{passes_race_count, passes_version}
-use Rattle.shb_reading.proofs.whole.read_head.Goals as goal
+use Rattle.shb_reading.proofs.entries.read_head.Goals as goal
 
 pub returns-in_default-clause-bad : goal.returns-in_default-clause-bad
 returns-in_default-clause-bad c = λ forms. bad_at Version forms _ _ _ c.in_default.ensures.0 c.in_default.ensures.1

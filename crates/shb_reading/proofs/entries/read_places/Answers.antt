@@ -4,7 +4,7 @@ use Rattle.shb_reading.proofs.Words.{Places, place_forms}
 use Rattle.shb_reading.proofs.EntryLemmas.{bad_weaker}
 use Rattle.shb_reading.proofs.Passing.{bad_at, passes_by}
 use Rattle.shb_reading.proofs.ScanLemmas.{section_read, with_section}
-use Rattle.shb_reading.proofs.whole.read_places.Goals as goal
+use Rattle.shb_reading.proofs.entries.read_places.Goals as goal
 
 pub returns-in_default-clause-bad : goal.returns-in_default-clause-bad
 returns-in_default-clause-bad c = λ forms.

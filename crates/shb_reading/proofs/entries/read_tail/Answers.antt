@@ -3,7 +3,7 @@ use Rattle.shb_reading.proofs.Words.{End}
 use Rattle.shb_reading.proofs.Passing.{bad_at, passes_by}
 use Rattle.shb_reading.proofs.ScanLemmas.{bad_tail}
 use Rattle.std.proofs.Common.{refl, []}
-use Rattle.shb_reading.proofs.whole.read_tail.Goals as goal
+use Rattle.shb_reading.proofs.entries.read_tail.Goals as goal
 
 pub returns-then-not-read_end-clause-bad : goal.returns-then-not-read_end-clause-bad
 returns-then-not-read_end-clause-bad c =

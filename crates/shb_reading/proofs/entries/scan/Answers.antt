@@ -1,6 +1,6 @@
 -- The parts, one after another, are the whole text.
 use Rattle.shb_reading.proofs.ScanLemmas.{scanned, whole_section}
-use Rattle.shb_reading.proofs.whole.scan.Goals as goal
+use Rattle.shb_reading.proofs.entries.scan.Goals as goal
 
 pub returns-clause-read : goal.returns-clause-read
 returns-clause-read c =

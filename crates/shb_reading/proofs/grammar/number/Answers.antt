@@ -1,7 +1,7 @@
 -- The digits at the front are the number, or there is none.
 use Rattle.std.proofs.Common.{rules}
 use Rattle.shb_reading.proofs.Digits.{number_is, number_not_plain, number_too_large}
-use Rattle.shb_reading.proofs.labels.number.Goals as goal
+use Rattle.shb_reading.proofs.grammar.number.Goals as goal
 
 pub returns-then-not-is_numeral : goal.returns-then-not-is_numeral
 returns-then-not-is_numeral c =

@@ -1,7 +1,7 @@
 -- A digit more is ten times the number so far and that digit.
 use Rattle.std.proofs.Common.{arith}
 use Rattle.shb_reading.proofs.Digits.{value_front, value_more}
-use Rattle.shb_reading.proofs.labels.value_of.Goals as goal
+use Rattle.shb_reading.proofs.grammar.value_of.Goals as goal
 
 pub returns-in_err-more : goal.returns-in_err-more
 returns-in_err-more c = rw c.from_residual.ensures (omega (arith, c.in_err-more.ensures, value_front c.args.digits.now c.loop-digit.digit-index c.loop-digit.value c.requires c.loop-digit-test.true c.loop-digit.invariant.value))

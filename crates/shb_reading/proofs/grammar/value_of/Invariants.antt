@@ -1,6 +1,6 @@
 use Rattle.std.proofs.Common.{◌≡◌, ◌<◌, ◌^◌, take}
 use Rattle.shb_reading.proofs.Words.{digits_value}
-use Rattle.shb_reading.proofs.labels.value_of.Given as goal
+use Rattle.shb_reading.proofs.grammar.value_of.Given as goal
 
 abbrev pub invariant-loop-digit : goal.invariant-loop-digit
 invariant-loop-digit l = record {

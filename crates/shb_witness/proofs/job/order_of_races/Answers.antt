@@ -1,6 +1,6 @@
 use Rattle.std.proofs.Common.{◌∙◌}
 use Rattle.shb_witness.proofs.Ends.{asks_ends, ends_all, same_ends}
-use Rattle.shb_witness.proofs.race_order.order_of_races.Goals as goal
+use Rattle.shb_witness.proofs.job.order_of_races.Goals as goal
 
 pub at_events-requires : goal.at_events-requires
 at_events-requires c = ends_all c.args.linked.events.now c.args.races.now c.as_slice.result.now c.requires.races (c.as_slice.ensures.value ∙ c.in_ok-events.ensures)

@@ -1,7 +1,7 @@
 use Rattle.std.proofs.Common.{ℕ, subst, sym}
 use Rattle.shb_witness.proofs.Words.{IsCut}
 use Rattle.shb_witness.proofs.CutLemmas.{cut_is, cuts_more}
-use Rattle.shb_witness.proofs.cuts.cuts_of.Goals as goal
+use Rattle.shb_witness.proofs.schedules.cuts_of.Goals as goal
 
 pub loop-thread-preserved : goal.loop-thread-preserved
 loop-thread-preserved g c =

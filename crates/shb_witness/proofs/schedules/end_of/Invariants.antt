@@ -1,6 +1,6 @@
 use Rattle.std.proofs.Common.{◌≡◌, ◌<◌, ◌≤◌, ℕ, Some, length, get_or}
 use Rattle.shb_witness.proofs.Words.{local_time, thread_at}
-use Rattle.shb_witness.proofs.cuts.end_of.Given as goal
+use Rattle.shb_witness.proofs.schedules.end_of.Given as goal
 
 abbrev pub invariant-loop-thread : goal.invariant-loop-thread
 invariant-loop-thread l = record {
