@@ -2,7 +2,7 @@
 //!
 //! A report is the head, the places, a block for each race of the race list in order, and the tail.
 //! Places are the pairs of locations of the races: [`places_of`] finds them. Each of the four parts
-//! has a call that writes it into any sink. A call puts its text together in a buffer of 1 KiB and
+//! has a call that writes it into any sink. A call puts its text together in a buffer of 256 bytes and
 //! sends that when it is full and at the end; it takes no memory. [`scheduled_block`] copies the
 //! runs of a schedule out of one text of all numbers, [`NumberTexts`], which is made once.
 //!

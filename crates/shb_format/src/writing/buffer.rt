@@ -6,7 +6,7 @@ use itoa::write_digits;
 use std::marker::Model;
 
 /// How many bytes a buffer holds.
-pub(crate) const ROOM: usize = 1024;
+pub(crate) const ROOM: usize = 256;
 
 /// The most digits that a `u64` has.
 pub(crate) const DIGITS: usize = 20;
