@@ -51,8 +51,8 @@ def make(tree, shb, prefix, library, files, version, date):
 
 
 def build_recorder(folder, library, version):
-    flags = f"{RECORDER_FLAGS} -DSHB_VERSION='\"{version}\"'"
-    ran = subprocess.run(["make", "-s", "-C", folder, f"CFLAGS={flags}", f"SONAME={library}"])
+    ran = subprocess.run(["make", "-s", f"-j{len(os.sched_getaffinity(0))}", "-C", folder,
+                          f"CFLAGS={RECORDER_FLAGS}", f"SONAME={library}", f"SHB_VERSION={version}"])
     if ran.returncode:
         raise Refused(f"the recorder can't be built: make ended with status {ran.returncode}; it needs gcc "
                       "and libdw-dev (elfutils)")

@@ -68,16 +68,32 @@ def room():
 
 
 @functools.lru_cache(maxsize=None)
+def compiler():
+    """A C compiler that does again none of what it did before."""
+    return shutil.copy(HERE / "compile_once", room())
+
+
+def environment(**settings):
+    """What installs has this environment. `CC="cc"` compiles all anew."""
+    return {**os.environ, "CC": compiler(), **settings}
+
+
+def make(folder, what, *words, **settings):
+    """Runs make in a copy of the repository."""
+    call("make", "-s", "-C", folder, what, f"SHB={SHB}", *words, env=environment(**settings))
+
+
+@functools.lru_cache(maxsize=None)
 def installed():
     """The prefix of an installation."""
     prefix = room() / "pre fix"
-    call("make", "-s", "-C", TOP, "install", f"SHB={SHB}", f"PREFIX={prefix}")
+    make(TOP, "install", f"PREFIX={prefix}")
     return prefix
 
 
 def dist(copy, **settings):
     """Makes the package in a copy of the repository, and gives its path."""
-    call("make", "-s", "-C", copy, "dist", f"SHB={SHB}", env={**os.environ, **settings})
+    make(copy, "dist", **settings)
     found = list(copy.glob("shb-*-x86_64-linux.tar.xz"))
     if len(found) != 1:
         raise AssertionError(found)

@@ -143,7 +143,7 @@ class Followed(installing.Case):
                                stderr=subprocess.DEVNULL)
         if os.getuid() or probe.returncode:
             self.skipTest("only who may mount folders can install a package in a copy of the system")
-        call("make", "-s", "-C", installing.packaged()[0], "deb", f"SHB={installing.SHB}")
+        installing.make(installing.packaged()[0], "deb")
         [package] = installing.packaged()[0].glob("*.deb")
         over = self.folder / "over"
         over.mkdir()

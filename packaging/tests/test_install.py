@@ -76,7 +76,8 @@ class Tree(installing.Case):
         """Calls the command as if it weren't root's, who may not follow a link out of the prefix."""
         code = ("import sys; sys.path[:0] = sys.argv[1:3]; from shb_install import command, placing; "
                 "placing.is_root = lambda: False; sys.exit(command.main(sys.argv[3:]))")
-        call(sys.executable, "-B", "-c", code, TOP / "packaging", TOP / "python", *words)
+        call(sys.executable, "-B", "-c", code, TOP / "packaging", TOP / "python", *words,
+             env=installing.environment())
 
     def test_a_bin_that_is_a_link_to_a_folder_elsewhere(self):
         """Each command finds its parts by both paths, as where ~/.local/bin leads to ~/bin."""
@@ -195,7 +196,7 @@ class Tree(installing.Case):
 
 class Uninstalled(installing.Case):
     def make(self, what, *words):
-        return call("make", "-s", "-C", TOP, what, f"SHB={installing.SHB}", *words)
+        installing.make(TOP, what, *words)
 
     def test_nothing_stays(self):
         prefix = self.folder / "prefix"
@@ -244,7 +245,7 @@ class Uninstalled(installing.Case):
     def refused(self, *words):
         """What make says that can't do it, without a traceback."""
         ran = installing.subprocess.run(["make", "-s", "-C", TOP, *words], stdout=installing.subprocess.PIPE,
-                                        stderr=installing.subprocess.PIPE)
+                                        stderr=installing.subprocess.PIPE, env=installing.environment())
         said = ran.stderr.decode()
         self.assertNotEqual(ran.returncode, 0, said)
         self.assertNotIn("Traceback", said)
@@ -277,7 +278,7 @@ class Uninstalled(installing.Case):
         program = self.folder / "a b" / "shb"
         program.parent.mkdir()
         shutil.copy(installing.SHB, program)
-        call("make", "-s", "-C", TOP, "install", f"SHB={program}", f"PREFIX={self.folder}/prefix")
+        self.make("install", f"SHB={program}", f"PREFIX={self.folder}/prefix")
         self.assertEqual((self.folder / "prefix/bin/shb").read_bytes(), installing.SHB.read_bytes())
 
     def test_destdir(self):

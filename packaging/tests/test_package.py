@@ -24,8 +24,8 @@ class Package(installing.Case):
                 os.utime(path, (1, 1))
         old = os.umask(0o077)
         self.addCleanup(os.umask, old)
-        second = installing.dist(other, TZ="Asia/Tokyo", LC_ALL="C", COLUMNS="150", PYTHONHASHSEED="7",
-                                 TMPDIR=str(self.folder))
+        second = installing.dist(other, CC="cc", TZ="Asia/Tokyo", LC_ALL="C", COLUMNS="150",
+                                 PYTHONHASHSEED="7", TMPDIR=str(self.folder))
         self.assertEqual(package.name, second.name)
         self.assertEqual(package.read_bytes(), second.read_bytes())
 
@@ -62,7 +62,7 @@ class Package(installing.Case):
         for left, wanted in ((checksum, "only after all its proofs passed"),
                              ("0" * 64, "was named by\nwho made this package")):
             (copy / "bin/shb.sum").write_text(f"{left}  -\n")
-            call("make", "-s", "-C", copy, "deb", f"SHB={installing.SHB}")
+            installing.make(copy, "deb")
             [package] = copy.glob("*.deb")
             call("dpkg", "-x", package, copy / left)
             self.assertIn(wanted, (copy / left / "usr/share/doc/shb/PROVED.md").read_text())
@@ -72,7 +72,7 @@ class Package(installing.Case):
         """A package of Debian that is made in a copy of the repository."""
         copy = self.folder / folder
         call("git", "clone", "-q", installing.packaged()[0], copy)
-        call("make", "-s", "-C", copy, "deb", f"SHB={installing.SHB}")
+        installing.make(copy, "deb")
         [package] = copy.glob("*.deb")
         call("sha256sum", "--check", f"{package.name}.sha256", cwd=copy)
         return package
