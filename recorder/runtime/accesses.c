@@ -1,5 +1,4 @@
-/* What `gcc -fsanitize=thread` calls: a hook before each access of memory, and the atomic
-   operations themselves. */
+/* What `gcc -fsanitize=thread` calls: a hook before each access of memory, and the atomic operations. */
 #include "hold.h"
 
 /* ---- accesses ---- */
@@ -115,8 +114,7 @@ UNALIGNED(16)
 UNALIGNED(32)
 UNALIGNED(64)
 
-/* A library that isn't instrumented tells how its object is used: an access of the first byte, by the one who
-   called it. */
+/* A library without hooks tells how its object is used: an access of the first byte, by its caller. */
 static uint64_t user_of(void *user, uint64_t caller) { return user ? (uint64_t)user : caller; }
 PUBLIC void __tsan_external_read(void *p, void *user, void *tag) {
     note_access(OP_READ, (uint64_t)p, 1, user_of(user, CALLER));
@@ -125,8 +123,7 @@ PUBLIC void __tsan_external_write(void *p, void *user, void *tag) {
     note_access(OP_WRITE, (uint64_t)p, 1, user_of(user, CALLER));
 }
 
-/* ---- atomic operations: done here under the turn, and in the strongest order; the record has the one asked
-   for ---- */
+/* ---- atomic operations: done here with the turn, in the strongest order; the record has their own ---- */
 #define ATOMIC __attribute__((section("atomics")))           /* a fault there is the program's (signals.c) */
 static uint64_t size_and_order(int size, int order) { return size | (order & 7) << ATOMIC_SIZE_BITS; }
 
@@ -137,8 +134,7 @@ static thread *before_atomic(enum operation operation, const volatile void *p, u
     return t;
 }
 
-/* What the hook has last, by whether it changed the value: a loop that leaves it as it is may wait for
-   another thread. */
+/* What the hook has last, by whether it changed the value: a loop that doesn't may wait for a thread. */
 static uint64_t last_of(int is_changed, const volatile void *p, uint64_t caller) {
     return is_changed ? 0 : read_at((uint64_t)p, caller);
 }

@@ -112,8 +112,7 @@ static void *memory_from(struct pool *pool, uint64_t bytes) {
     return pool->chunk + pool->left;
 }
 
-/* Once there is no memory there never is again: a page whose first accesses were met without cells must not
-   get any later. */
+/* Once there is no memory there never is: a page whose first accesses met no cells must get none later. */
 static void *out_of_memory(void) {
     memory_left = cell_pool.left = 0;
     return 0;
@@ -418,8 +417,7 @@ static inline uint64_t *known_word(cell *c, cell_use use) {
     return is_same(cell_uses[slot], use) ? find_word(c, slot) : 0;
 }
 
-/* The word of a use that the cell gets, if it hasn't it; null if it isn't in a first phase, or has
-   no room. */
+/* The word of a use that the cell gets, if it hasn't it; null if it is in no first phase, or has no room. */
 static uint64_t *new_word(cell *c, cell_use use) {
     uint32_t number = c->is_first ? number_of_use(use) : 0;
     uint64_t *word = number ? find_word(c, number) : 0;
@@ -516,8 +514,7 @@ static enum operation operation_of(struct record r) { return r.what >> 48 & 63; 
 
 static int is_in_one(uint64_t address, uint64_t end) { return address / GRAIN == (end - 1) / GRAIN; }
 
-/* An atomic access of several cells, or a use of an object: it is recorded, and may conflict with
-   all others. */
+/* An atomic access of several cells, or a use of an object: it is recorded, and may conflict with all. */
 static int is_used_by_all(enum operation operation, uint64_t address, uint64_t end) {
     return is_atomic(operation) ? !is_in_one(address, end) : operation >= OP_LOCK_INIT
         && operation <= OP_DESTROY;

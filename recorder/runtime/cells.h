@@ -30,8 +30,7 @@ enum { MOST_LOG = 7, MOST_KEYS = KEYS_OF_LINE << (MOST_LOG - 1) };
 #define POSITIONS (IS_REPEATED - 1)
 #define CONTEXT_AT (POSITION_BITS + 1)
 
-/* The word of an access that is held back, by that which its use had before. Before it is known it
-   has IS_REPEATED. */
+/* The word of an access that is held back, by its use's last one. Before that is known it has IS_REPEATED. */
 static inline uint64_t word_after(uint64_t before, uint64_t word) {
     return __builtin_expect_with_probability(before != 0, 1, 1) ? word : word & ~IS_REPEATED;
 }
@@ -44,8 +43,7 @@ enum { GRAIN = 8, CELL_PAGE = 4096, CELLS_OF_PAGE = CELL_PAGE / GRAIN, ADDRESS_B
 enum { REGIONS = 1 << (ADDRESS_BITS - REGION_BITS), PAGES_OF_REGION = (1 << REGION_BITS) / CELL_PAGE };
 #define CELL_ADDRESSES (1ull << ADDRESS_BITS)
 
-/* An owner that stands for all threads that read the cell in a phase without a write: then each use has
-   its reader. */
+/* An owner that stands for all who read the cell in a phase without a write: then each use has its reader. */
 #define READERS (~0u - 1)
 
 /* A use is an access of a kind, at a place, of certain bytes of the cell's, in contexts of one kind
@@ -103,8 +101,7 @@ extern int has_cells;
 extern cell_region **cell_regions;     /* or null */
 extern cell_use *cell_uses;
 
-/* Makes the tables, of at most so many bytes for cells; with 0, or where there is no memory, every access
-   is recorded. */
+/* Makes the tables, of at most so many bytes for cells; with 0, or without memory, all is recorded. */
 void begin_cells(uint64_t most_bytes);
 void end_cells(void);                  /* gives their memory back; what is held back is never recorded */
 void unlock_cells(void);

@@ -8,8 +8,7 @@
 #include <sys/stat.h>
 #include <sys/uio.h>
 
-/* ---- what is written, closed or added to an epoll comes before what reads it, gets its number or is
-   woken ---- */
+/* ---- a write, close or addition to an epoll comes before what reads it, gets its number or is woken ---- */
 enum { DESCRIPTORS = 1 << 16 };
 /* what leads to the same data has one number, that of one of them; plus one */
 static int pair_of[DESCRIPTORS];

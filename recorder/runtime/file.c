@@ -240,8 +240,7 @@ static int is_foreign(int file, const char *begin) {
     return n > 0 && strncmp(text, begin, n);
 }
 
-/* Whose record stands in the file, where it isn't one of this command: a script that runs two would lose it
-   in silence. */
+/* Whose record is in the file, if not this command's: a script that runs two would lose it in silence. */
 static void tell_what_is_replaced(const char *command) {
     char text[sizeof RECORD_MAGIC + COMMAND_BYTES] = "", *line = text + strlen(RECORD_MAGIC);
     if (pread(kept[RECORD].number, text, sizeof text - 1, 0) < 0
@@ -252,8 +251,7 @@ static void tell_what_is_replaced(const char *command) {
             "process a record of its own\n", path, line + strlen("command "));
 }
 
-/* Opens the file and locks it: cut by a second process it would be a SIGBUS in the first.  Says why
-   it can't. */
+/* Opens the file and locks it: cut by a second process it is a SIGBUS in the first.  Says why it can't. */
 int open_file(const char *command, uint64_t first_bytes, uint64_t segment) {
     number_path(segment);
     if (!keep(RECORD, O_CREAT)) return refuse(path);

@@ -3,8 +3,7 @@
 /* Functions of the C library that are handed on to it in its newest version (forwarded.py says which). A
    function of this library takes the place of one that is here. */
 
-/* An entry of the table is a name and, from its first call on or before, the function. A jump leaves all
-   arguments as they are. */
+/* An entry is a name and, from its first call on or before, the function. A jump keeps all arguments. */
 .macro FORWARD name
     .section .rodata
 .Lname\@:
@@ -29,8 +28,7 @@
 .endm
 
     .text
-/* Finds the function of the entry in r11, with all arguments kept: six words, eight numbers, how many of
-   these. */
+/* Finds the function of the entry in r11, and keeps all arguments: six words, eight numbers, their count. */
     .type forward_first, @function
 forward_first:
     pushq %rbp

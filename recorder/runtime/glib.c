@@ -1,5 +1,4 @@
-/* GLib's locks, conditions, queues and one-time initializations. Its threads are POSIX', which are seen
-   as such. */
+/* GLib's locks, conditions, queues and one-time initializations. Its threads are seen as those of POSIX. */
 #include "libraries.h"
 
 typedef int gboolean;
@@ -8,8 +7,7 @@ TRIES_LOCK(gboolean, g_mutex_trylock, OP_LOCK)
 LOCKS(g_mutex_lock, g_mutex_trylock, OP_LOCK)
 UNLOCKS(g_mutex_unlock, OP_UNLOCK)
 
-/* These are a POSIX lock within, which would be seen besides where the call waits for it. So the call
-   never does. */
+/* These are a POSIX lock within, which would be seen too if the call waited for it. So it never does. */
 #define LOCKS_BY_TRYING(name, try, operation) \
     TAKES_BY_TRYING(void, name, operation, DONE(REAL(name)(m)), REAL(try)(m), \
                     syscall(SYS_nanosleep, &(struct timespec){.tv_nsec = 50000}, 0), (void *m))

@@ -9,8 +9,7 @@
 void note_access(enum operation operation, uint64_t address, uint64_t size, uint64_t caller);
 void hold_elsewhere(thread *t, cell *c, uint64_t what, uint64_t address);
 
-/* What a thread's last hook was, where it left the value as it was. Its operation stands where a record
-   has it. */
+/* A thread's last hook, if that left the value as it was. Its operation stands where a record has it. */
 static inline uint64_t read_at(uint64_t address, uint64_t caller) {
     return ((caller ^ address << 20) & ~(63ull << 48)) | (uint64_t)OP_READ << 48;
 }
@@ -57,8 +56,7 @@ static inline cell *usual_cell(const thread *t, uint64_t address) {
     return is_usual(t, address) ? find_cell(address) : 0;
 }
 
-/* The word of a use in a cell of the thread's, or of readers; null where it isn't in the line in which
-   most are. */
+/* The word of a use in a cell of the thread's, or of readers; null if it isn't in the line that has most. */
 static inline uint64_t *word_near(const thread *t, cell *c, enum operation operation, uint64_t what) {
     int is_of_readers = c->owner == READERS && only_reads(operation);
     cell_use use = {what, is_of_readers ? t->kind | t->reader : t->kind};

@@ -24,8 +24,7 @@ static inline void note_stream(enum operation operation, FILE *f, uint64_t calle
 static inline size_t text(const char *s) { return strlen(s) + 1; }
 static inline size_t text_within(const char *s, size_t n) { return least(strnlen(s, n) + 1, n); }
 
-/* A function whose accesses are known after it, by its result r.  It doesn't wait, so they are recorded where
-   they are made. */
+/* A function whose accesses its result r tells. It doesn't wait, so they are recorded where they are made. */
 #define AFTER(type, name, parameters, arguments, ...) \
     type name parameters; \
     PUBLIC type name parameters { \

@@ -90,8 +90,7 @@ static int often_waits(long number, long second) {
     }
 }
 
-/* Who was woken, or found another word, has what was stored there: locks of code without hooks too are
-   taken so. */
+/* Who was woken, or found another word, has what was stored there: code without hooks takes locks so. */
 static void note_waited(const void *word, long result, uint64_t caller) {
     uint64_t inside = sizeof(int) | __ATOMIC_ACQUIRE << ATOMIC_SIZE_BITS;
     if (others && (!result || result == -EAGAIN))

@@ -113,8 +113,7 @@ PUBLIC int pthread_barrier_wait(pthread_barrier_t *b) {
     return r;
 }
 
-/* What was done by here comes before what the next thread does that takes it: like a store and a load of
-   an atomic. */
+/* What was done by here comes before what the next thread does that takes it, as with a store and a load. */
 static void note_atomic(enum operation operation, const void *p, uint64_t size, uint64_t caller) {
     int order = operation == OP_ATOMIC_LOAD ? __ATOMIC_ACQUIRE : __ATOMIC_RELEASE;
     if (others) note_bytes(MAY_YIELD, operation, p, size | order << ATOMIC_SIZE_BITS, caller);
@@ -172,8 +171,7 @@ PUBLIC int __cxa_guard_acquire(char *byte) {
     note_atomic(OP_ATOMIC_LOAD, byte, 1, CALLER);
     return r;
 }
-/* What was done for the variable until here comes before what the next thread does for it, also where
-   it threw. */
+/* What was done for the variable so far comes before what the next thread does for it, even if it threw. */
 #define LEAVES_GUARD(name, plain) \
     PUBLIC int name(char *byte) { \
         note_atomic(OP_ATOMIC_STORE, byte, 1, CALLER); \

@@ -52,8 +52,7 @@ PUBLIC void free(void *p) {
     __libc_free(p);
 }
 
-/* One that fails frees nothing. Where the turn was lost in it, another thread may have the old memory
-   by now. */
+/* One that fails frees nothing. If the turn was lost in it, another thread may have the old memory by now. */
 PUBLIC void *realloc(void *p, size_t n) {
     thread *t = is_free_seen(p, CALLER) ? enter(MAY_YIELD) : 0;
     size_t bytes = t ? bytes_freed(p) : 0;

@@ -1,5 +1,4 @@
-/* The modules of code in the program: which are instrumented, and the functions that the wrappers here
-   stand for. */
+/* The modules of code in the program: which have hooks, and the functions that wrappers here stand for. */
 #include "runtime.h"
 #include <dlfcn.h>
 #include <link.h>
@@ -8,8 +7,7 @@ enum { MAX_MODULES = 256 };
 struct module modules[MAX_MODULES];
 int module_count;
 
-/* Libraries whose order is recorded at their calls, or told by archer: what they use within is no object of
-   the program's. */
+/* Libraries whose order is recorded at calls, or told by archer: what they use within isn't the program's. */
 static const char *const own_orders[] = {"/libomp.", "/libiomp5.", "/libQt5Core.", "/libQt6Core.",
                                          "/libglib-2."};
 enum { OWN_ORDERS = sizeof own_orders / sizeof *own_orders };
@@ -31,8 +29,7 @@ static void note_module(struct dl_phdr_info *info, struct module m) {
     note_text(line);
 }
 
-/* In C is what asks for nothing of C++ and unwinds no stack, nor uses liburcu, whose headers have functions
-   deep in each other. */
+/* In C is what takes nothing of C++, unwinds no stack, and uses no liburcu, whose headers nest functions. */
 enum language { WITHOUT_HOOKS, IN_OTHERS, IN_C };
 static enum language told_by(const void *strings, uint64_t size) {
     static const char *const others[] = {"\0_Z", "\0__gxx_", "\0_Unwind_", "\0urcu_"};
@@ -41,8 +38,7 @@ static enum language told_by(const void *strings, uint64_t size) {
     return IN_C;
 }
 
-/* Compiled with -fsanitize=thread is what imports the hooks.  (Who calls __tsan_init says less: it may be
-   a jump.) */
+/* Compiled with -fsanitize=thread is what imports hooks. (Calls of __tsan_init say less: some are jumps.) */
 static enum language language_of(struct dl_phdr_info *info, const ElfW(Phdr) *dynamic) {
     static const char name[] = "\0__tsan_init";
     uint64_t strings = 0, size = 0;
@@ -89,8 +85,7 @@ static int begins_with(const char *name, const char *begin) {
     return !*begin;
 }
 
-/* What it allocates for that is no hook of the program's: whether it is looked up hangs on the order
-   of threads. */
+/* What that allocates is no hook of the program's: whether it is looked up depends on who comes first. */
 void *next_symbol(const char *name) {
     thread *t = self && !self->inside ? self : 0;
     void *p = 0;
@@ -111,8 +106,7 @@ int program_has(const char *name) {
     return module_with(dlsym(RTLD_DEFAULT, name)) != module_with((void *)program_has);
 }
 
-/* ---- functions of libraries that the program may have by dlopen, so that they aren't behind this
-   one ---- */
+/* ---- functions of libraries that the program may have by dlopen, so they aren't behind this one ---- */
 typedef struct { struct { struct module bounds; const char *name; } at[MAX_MODULES]; int count; } loaded;
 
 static int add_loaded(struct dl_phdr_info *info, size_t size, void *loaded_) {
@@ -179,8 +173,7 @@ PUBLIC void __tsan_init(void) {
     dl_iterate_phdr(see_module, 0);
 }
 
-/* ---- modules that go: no other one comes to their addresses, for the record names code and variables by
-   these ---- */
+/* ---- modules that go: none comes to their addresses, by which the record names code and variables ---- */
 enum { MOST_GONE = 200 };              /* then others may: a table of modules has an end */
 static int begins_at(struct dl_phdr_info *info, size_t size, void *low) {
     return bounds_of(info).low == *(uint64_t *)low;

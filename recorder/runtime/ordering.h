@@ -66,8 +66,7 @@ enum { MOST_TRIES = 8 };
         return (type)r; \
     }
 
-/* A wait without the lock that was given up for it, which is recorded as taken again after it, also if the
-   wait was cancelled. */
+/* A wait without the lock that was given up for it; after it, cancelled or not, that is recorded as taken. */
 struct waking { thread *t; void *lock; enum operation taken; uint64_t caller; int unusual; };
 static inline void has_woken(void *waking_) {
     struct waking *waking = waking_;

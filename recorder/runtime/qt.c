@@ -24,8 +24,7 @@ TRY_FOR(_ZN15QRecursiveMutex7tryLockEi, OP_LOCK, r)
 TRY_UNTIL(_ZN15QRecursiveMutex7tryLockE14QDeadlineTimer, OP_LOCK, r)
 UNLOCKS(_ZN15QRecursiveMutex6unlockEv, OP_UNLOCK)
 
-/* What lines of a header call where the lock is taken, or somebody waits for it. They have hooks, so the
-   lock's word is an atomic. */
+/* What a header's lines call if the lock is taken or waited for. They have hooks: the word is an atomic. */
 READS_WORD(void, _ZN11QBasicMutex12lockInternalEv, m, DONE(REAL(_ZN11QBasicMutex12lockInternalEv)(m)), 1,
            (void *m))
 READS_WORD(bool, _ZN11QBasicMutex12lockInternalEi, m, REAL(_ZN11QBasicMutex12lockInternalEi)(m, ms), r,

@@ -414,8 +414,7 @@ static void add_state_of(thread *t) {
     if (*t->name) add_name(t);
 }
 
-/* What a segment begins with: the threads, and the locks that they hold. It has room for all that there
-   can be. */
+/* What a segment begins with: the threads, and the locks that they hold. It has room for all that may be. */
 static int add_state(void) {
     enum { RECORDS_OF_THREAD = 4 };
     uint64_t have = in_memory ? most_records : 0, most = THREAD_NUMBERS * RECORDS_OF_THREAD + held_count;
@@ -502,8 +501,7 @@ void close_recording(void) {
     leave(t);
 }
 
-/* With the turn: the program may have so many addresses from here on. Is what has disk space a part of them
-   that is small enough? */
+/* With the turn: the program has so many addresses from now on. Is what has disk space few enough of them? */
 int limit_record(uint64_t addresses) {
     uint64_t page = getpagesize(), before = map_bytes(), most = addresses / PARTS_OF_ADDRESSES / page * page;
     most_cells = least(most_cells, addresses / PARTS_OF_ADDRESSES);

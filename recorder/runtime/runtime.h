@@ -1,5 +1,4 @@
-/* What the parts of the run-time library share, with the headers that most of them need. Each includes
-   it first. */
+/* What the parts of the run-time library share, with the headers that most need. Each includes it first. */
 #pragma once
 #define _GNU_SOURCE
 #include <errno.h>
@@ -23,8 +22,7 @@
 /* for the compiler; the processor stores in this order, and loads too */
 #define KEEP_ORDER() __asm__ volatile("" ::: "memory")
 
-/* The functions that a thread is in are a node of a tree (calls.c): the innermost one, and the node of those
-   further out. */
+/* The functions that a thread is in are a node of a tree (calls.c): the innermost, and the others' node. */
 typedef struct context {
     struct context *outer;
     uint64_t caller, function, way;    /* way: as way_to returns it */
@@ -178,8 +176,7 @@ int next_is_unusual(const thread *t);  /* moves on past what the list has of thi
 void add_unusual(const thread *t);
 
 #define DONE(call) ({ call; 0; })      /* of a call that returns nothing */
-/* A call that may block, made inside a hook: without the turn, and its own hooks (of handlers, say)
-   are recorded. */
+/* A call that may block, made in a hook: without the turn, and its own hooks (of handlers) are recorded. */
 #define BLOCKING(t, call) ({ \
     give_turn(t); \
     leave(t); \
@@ -317,8 +314,7 @@ static inline void *function_of_name(struct forwarded *f) {
 #define REAL_OF_NAME(name, type) ((type)function_of_name(FORWARDED(name)))
 #define REAL(f) REAL_OF_NAME(#f, __typeof__(&f))
 
-/* accesses.c: a quick hook (hold.h) of a range whose cells have the use already, in their first phase. Is it
-   held back? */
+/* accesses.c: a quick hook (hold.h) of a range whose cells have the use in a first phase. Is it held back? */
 int hold_range(enum operation operation, uint64_t address, uint64_t size, uint64_t caller);
 /* an atomic load by the caller, who waits for nobody */
 int load_acquire(const int *p, uint64_t caller);

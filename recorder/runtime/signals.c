@@ -37,8 +37,7 @@ static void handle(int signal, siginfo_t *info, void *context) {
     errno = saved;
 }
 
-/* ---- a signal that ends the program where its code made it: what it was, and where, is recorded; then it
-   comes again ---- */
+/* ---- a signal that ends the program where its code made it: that is recorded, and it comes again ---- */
 extern const char __start_atomics[] __attribute__((visibility("hidden"))),
     __stop_atomics[] __attribute__((visibility("hidden")));
 static void crash(int signal, siginfo_t *info, void *context) {

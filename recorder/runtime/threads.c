@@ -95,8 +95,7 @@ static void in_child(void) {
     leave(self);
 }
 
-/* What makes a process without the handlers of fork. With CLONE_VM it uses its parent's memory, as one made
-   by vfork. */
+/* What makes a process without fork's handlers. With CLONE_VM it uses its parent's memory, as by vfork. */
 void after_fork(pid_t made) { if (!made) in_child(); }
 
 PUBLIC pid_t _Fork(void) {
@@ -149,8 +148,7 @@ static void restore_preload(void) {
     unsetenv("SHB_PRELOAD");
 }
 
-/* A program with other rights than those of who starts it does nothing that the environment asks for, and
-   hands nothing on of that. */
+/* A program with other rights than its caller's does nothing that the environment asks, nor hands that on. */
 static int has_rights_of_its_own(void) {
     if (!getauxval(AT_SECURE)) return 0;
     unsetenv("SHB_PRELOAD");
@@ -271,8 +269,7 @@ static int is_detached(const pthread_attr_t *attributes, uint64_t caller) {
     return state == PTHREAD_CREATE_DETACHED && !tells_its_own_order(caller) ? IS_DETACHED : 0;
 }
 
-/* Records the fork and starts the thread, whose function and argument are in `start`; NOT_STARTED where it
-   can't have a number. */
+/* Records the fork and starts the thread with what `start` has; NOT_STARTED where it can't have a number. */
 enum { NOT_STARTED = -1 };
 static int create_in_hook(thread *t, thread start, pthread_t *handle, const pthread_attr_t *attributes,
                           uint64_t caller) {

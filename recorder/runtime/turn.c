@@ -112,8 +112,7 @@ static void wake(thread *t) {
     syscall(SYS_futex, &t->wakes, FUTEX_WAKE_PRIVATE, 1, 0, 0, 0);
 }
 
-/* Has t the turn still?  Raises the count where somebody doubts it, so that no waiter that looked before this
-   takes the turn over. */
+/* Has t the turn still?  Raises the count if somebody doubts it: no waiter that looked before may take it. */
 int keep_turn(thread *t) {
     uint64_t word = atomic_load_explicit(&turn, memory_order_relaxed);
     if (t != quick_holder && (HOLDER(word) != NAME(t) || !swap_in(t, word))) return 0;
@@ -220,8 +219,7 @@ static int get_turn(thread *t, uint64_t seen) {
     return 1;
 }
 
-/* Takes the turn if nobody has it, else stands among the waiters, at its first hook perhaps as the
-   held one. */
+/* Takes the turn if nobody has it, else is among the waiters, at its first hook perhaps as the held one. */
 static int take_free(thread *t) {
     int is_first = !t->began;
     lock_guard();
@@ -234,8 +232,7 @@ static int take_free(thread *t) {
     return done;
 }
 
-/* Waits until a new thread is at its first hook.  It doesn't sleep, for then a waiter would take the
-   turn over. */
+/* Waits until a new thread is at its first hook.  It doesn't sleep, or a waiter would take the turn over. */
 void wait_for_start(const thread *child) {
     time_t end = seconds_now() + START_SECONDS;
     while (recording && !child->began && are_slices_short() && seconds_now() <= end) syscall(SYS_sched_yield);
@@ -289,8 +286,7 @@ static int gone_or_asleep(pid_t system_id, long *ticks) {
     return text[0] >= '0' && text[0] <= '9';
 }
 
-/* While a waiter doubts: the turn's word, when it was first looked at the holder, and its time then, where it
-   didn't work. */
+/* While a waiter doubts: the turn's word, the holder's time at the first look if it didn't work, and when. */
 struct watch { int doubts; uint64_t word; long ticks; time_t since; };
 
 /* The word, which is doubted where it was the same for a whole patience. */
@@ -387,8 +383,7 @@ int let_another_run(thread *t) {
     return gives;
 }
 
-/* After a call that was made with the turn and may have slept: a step, so that a replay can give the turn up
-   where it was lost. */
+/* After a call with the turn that may have slept: a step, so a replay can give it up where it was lost. */
 void keep_turn_after_call(thread *t) {
     if (is_replaying && --t->quantum <= 0) give_turn(t);
     else t->steps++;
@@ -446,8 +441,7 @@ void end_inside(thread *t) {
     if (t->is_cancelled_anywhere) pthread_setcancelstate(t->cancel_state, 0);
 }
 
-/* At the end of a hook: the next ones may be quick until the slice ends, or where nobody waits, for
-   a while. */
+/* At the end of a hook: the next ones may be quick until the slice ends or, if nobody waits, for a while. */
 static void let_be_quick(thread *t) {
     uint64_t most = t->is_cancelled_anywhere ? 0 : begin_quick(t),
         left = t->quantum > 1 ? (uint64_t)(t->quantum - 1) * quick_share() : 0;
@@ -539,8 +533,7 @@ int end_turns(void) {
     return was;
 }
 
-/* ---- the memory of threads: that of one which is over is used again, for a waiter may still look into
-   it ---- */
+/* ---- the memory of threads: used again when one is over, for a waiter may still look into it ---- */
 static thread *ended;                  /* a list; with the turn */
 
 /* With the turn, so no word of the turn names it from here on. */

@@ -1,5 +1,4 @@
-/* liburcu, where a program calls its functions (without _LGPL_SOURCE): for each flavour, `memb` as
-   an example. */
+/* liburcu, if a program calls its functions (without _LGPL_SOURCE): for each flavour, such as `memb`. */
 #include "libraries.h"
 
 /* What was done in a reader's section before the end of a wait for readers comes before what is done after

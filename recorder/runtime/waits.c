@@ -58,8 +58,7 @@ BLOCKS(int, sigwait, (const sigset_t *m, int *s), (m, s))
 BLOCKS(int, sigwaitinfo, (const sigset_t *m, siginfo_t *s), (m, s))
 BLOCKS(int, sigtimedwait, (const sigset_t *m, siginfo_t *s, deadline d), (m, s, d))
 
-/* ---- System V's semaphores, and queues: what gives comes before what takes, as with POSIX'
-   semaphores ---- */
+/* ---- System V's semaphores, and queues: what gives comes before what takes, as with POSIX' ---- */
 enum { GIVES = 1, TAKES = 2 };
 
 static int effect_of(const struct sembuf *p, size_t n) {     /* to wait for 0 is to take */
