@@ -17,9 +17,9 @@ class Found(collections.namedtuple("Found", "rows endings facts stale since stat
     """What a farm has found: a row for each two locations, how each trace ended, the facts as numbers, the
     lines of the known places that matched nothing, what is new since an earlier farm or None, the status."""
 
-    def since_of(self, row):
-        """Whether a row is new, if that is asked: a list of one word, or an empty one."""
-        return [self.since.state_of(row)] if self.since else []
+    def state_since(self, row):
+        """Whether a row is new or the same; nothing where that isn't asked."""
+        return self.since.state_of(row) if self.since else ""
 
 
 def field(text):
@@ -39,7 +39,7 @@ def places_table(found):
     lines = [b"traces\tstate\tfirst\tsecond\texample\treport\tplaces\tvariables\tsince\n"]
     for row in found.rows:
         fields = [b"%d" % row.traces, field(row.state()), *row.names, field(row.example), field(row.report),
-                  b"%d" % row.places, variables_of(row), field("".join(found.since_of(row)))]
+                  b"%d" % row.places, variables_of(row), field(found.state_since(row))]
         lines.append(b"\t".join(fields) + b"\n")
     return b"".join(lines)
 
@@ -49,11 +49,8 @@ def traces_table(endings):
     lines = [b"trace\toutcome\tplaces\twords\tseconds\tMiB\n"]
     for name, ending in endings.items():
         places = b"%d" % len(ending.places) if ending.kind == "report" else b""
-        fields = [field(name), field(ending.kind), places, field(ending.words)]
-        if ending.cost:
-            fields += [b"%.2f" % ending.cost.seconds, b"%d" % (ending.cost.kib // 1024)]
-        else:
-            fields += [b"", b""]
+        cost = ending.cost and (b"%.2f" % ending.cost.seconds, b"%d" % (ending.cost.kib // 1024))
+        fields = [field(name), field(ending.kind), places, field(ending.words), *(cost or (b"", b""))]
         lines.append(b"\t".join(fields) + b"\n")
     return b"".join(lines)
 
@@ -83,13 +80,13 @@ def text(found):
     """What is printed: the numbers, the places, traces without a report, and those with something to know."""
     names = ("traces", "reports", "refused", "missing"), ("places", "unknown", "known")
     lines = [" ".join(f"{name} {found.facts[name]}" for name in of_line) for of_line in names]
-    head, gone = [b"traces", b"state", b"first", b"second", b"variables", b"example"], []
+    head, gone = [b"traces", b"state", b"first", b"second", b"variables", b"example",
+                  b"since" if found.since else b""], []
+    rows = [[b"%d" % row.traces, field(row.state()), *row.names, variables_of(row), field(row.example),
+             field(found.state_since(row))] for row in found.rows]
     if found.since:
         lines.append("since {}: new {new} gone {gone} same {same}".format(found.since.name, **found.facts))
-        head.append(b"since")
         gone = [[b"gone", *map(os.fsencode, words)] for words in found.since.gone]
-    rows = [[b"%d" % row.traces, field(row.state()), *row.names, variables_of(row), field(row.example),
-             *map(field, found.since_of(row))] for row in found.rows]
     lost = [[b"missing" if ending.kind == "missing" else b"refused", field(name), field(why(ending))]
             for name, ending in found.endings.items() if ending.kind != "report"]
     noted = [[b"report", field(name), field(note_of(ending))]
@@ -105,7 +102,7 @@ def document(found, entries):
               for name, ending in found.endings.items()]
     places = [result.entry(row, result.entry_of(entries, row), traces=row.traces,
                            example=result.text(os.fsencode(row.example)),
-                           **{"since": state for state in found.since_of(row)})
+                           **({"since": found.state_since(row)} if found.since else {}))
               for row in found.rows]
     return result.document("shb-farm", {**found.facts, "status": found.status}, places,
                            stale=result.stale_of(found.stale), traces=traces)

@@ -93,14 +93,14 @@ def with_reader_locks(events, uses, repairs):
             reading[held] -= 1
             yield event.like(b"rel", event.name + READER + event.thread)
         elif event.word in (b"wrlock", b"acq", b"wrunlock", b"rel"):
-            takes = event.word in (b"wrlock", b"acq")
             if event.word == b"wrlock":
                 repairs.translate(WRITE_LOCK)
-            readers = [event.name + READER + reader for reader in uses.readers.get(event.name, ())]
-            if takes:
-                yield from (event.like(b"acq", name) for name in [event.name, *readers])
+            readers = uses.readers.get(event.name, ())
+            names = [event.name, *(event.name + READER + reader for reader in readers)]
+            if event.word in (b"wrlock", b"acq"):
+                yield from (event.like(b"acq", name) for name in names)
             else:
-                yield from (event.like(b"rel", name) for name in [*reversed(readers), event.name])
+                yield from (event.like(b"rel", name) for name in reversed(names))
         else:
             yield event
 
