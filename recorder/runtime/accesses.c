@@ -68,32 +68,23 @@ void hold_elsewhere(thread *t, cell *c, uint64_t what, uint64_t address) {
 #define ACCESSES(kind, n) \
     PUBLIC void __tsan_##kind##read##n(void *p) { hook(OP_READ, (uint64_t)p, n, CALLER); } \
     PUBLIC void __tsan_##kind##write##n(void *p) { hook(OP_WRITE, (uint64_t)p, n, CALLER); }
-#define ACCESSES_AT(n) \
-    PUBLIC void __tsan_read##n##_pc(void *p, void *at) { \
-        note_access(OP_READ, (uint64_t)p, n, (uint64_t)at); } \
-    PUBLIC void __tsan_write##n##_pc(void *p, void *at) { \
-        note_access(OP_WRITE, (uint64_t)p, n, (uint64_t)at); }
+/* One at a place that may be named; it isn't quick. */
+#define ACCESS(name, operation, size, place, parameters) \
+    PUBLIC void __tsan_##name parameters { note_access(operation, (uint64_t)p, size, (uint64_t)(place)); }
 #define ACCESSES_OF(n) \
     ACCESSES(, n) ACCESSES(volatile_, n) ACCESSES(unaligned_, n) ACCESSES(unaligned_volatile_, n) \
-        ACCESSES_AT(n)
+    ACCESS(read##n##_pc, OP_READ, n, at, (void *p, void *at)) \
+    ACCESS(write##n##_pc, OP_WRITE, n, at, (void *p, void *at))
 ACCESSES_OF(1)
 ACCESSES_OF(2)
 ACCESSES_OF(4)
 ACCESSES_OF(8)
 ACCESSES_OF(16)
 
-PUBLIC void __tsan_read_range(void *p, unsigned long size) {
-    note_access(OP_READ, (uint64_t)p, size, CALLER);
-}
-PUBLIC void __tsan_write_range(void *p, unsigned long size) {
-    note_access(OP_WRITE, (uint64_t)p, size, CALLER);
-}
-PUBLIC void __tsan_read_range_pc(void *p, unsigned long size, void *at) {
-    note_access(OP_READ, (uint64_t)p, size, (uint64_t)at);
-}
-PUBLIC void __tsan_write_range_pc(void *p, unsigned long size, void *at) {
-    note_access(OP_WRITE, (uint64_t)p, size, (uint64_t)at);
-}
+ACCESS(read_range, OP_READ, size, CALLER, (void *p, unsigned long size))
+ACCESS(write_range, OP_WRITE, size, CALLER, (void *p, unsigned long size))
+ACCESS(read_range_pc, OP_READ, size, at, (void *p, unsigned long size, void *at))
+ACCESS(write_range_pc, OP_WRITE, size, at, (void *p, unsigned long size, void *at))
 PUBLIC void __tsan_vptr_read(void **p) { hook(OP_READ, (uint64_t)p, 8, CALLER); }
 PUBLIC void __tsan_vptr_update(void **p, void *value) {
     if (*p != value) hook(OP_WRITE, (uint64_t)p, 8, CALLER);
@@ -116,26 +107,21 @@ UNALIGNED(64)
 
 /* A library without hooks tells how its object is used: an access of the first byte, by its caller. */
 static uint64_t user_of(void *user, uint64_t caller) { return user ? (uint64_t)user : caller; }
-PUBLIC void __tsan_external_read(void *p, void *user, void *tag) {
-    note_access(OP_READ, (uint64_t)p, 1, user_of(user, CALLER));
-}
-PUBLIC void __tsan_external_write(void *p, void *user, void *tag) {
-    note_access(OP_WRITE, (uint64_t)p, 1, user_of(user, CALLER));
-}
+ACCESS(external_read, OP_READ, 1, user_of(user, CALLER), (void *p, void *user, void *tag))
+ACCESS(external_write, OP_WRITE, 1, user_of(user, CALLER), (void *p, void *user, void *tag))
 
 /* ---- atomic operations: done here with the turn, in the strongest order; the record has their own ---- */
 #define ATOMIC __attribute__((section("atomics")))           /* a fault there is the program's (signals.c) */
 static uint64_t size_and_order(int size, int order) { return size | (order & 7) << ATOMIC_SIZE_BITS; }
 
-static thread *before_atomic(enum operation operation, const volatile void *p, uint64_t size_and_order,
-                             uint64_t caller) {
+static thread *before_atomic(enum operation operation, pointer p, uint64_t size_and_order, uint64_t caller) {
     thread *t = enter(MAY_YIELD);
     if (t && others) put(t, operation, p, size_and_order, caller);
     return t;
 }
 
 /* What the hook has last, by whether it changed the value: a loop that doesn't may wait for a thread. */
-static uint64_t last_of(int is_changed, const volatile void *p, uint64_t caller) {
+static uint64_t last_of(int is_changed, pointer p, uint64_t caller) {
     return is_changed ? 0 : read_at((uint64_t)p, caller);
 }
 
@@ -147,8 +133,7 @@ static void after_atomic(thread *t, uint64_t last) {
 }
 
 /* Whether a compare-and-exchange is an update or a load is known after it. */
-static void after_exchange(thread *t, int done, const volatile void *p, uint64_t size_and_order,
-                           uint64_t caller) {
+static void after_exchange(thread *t, int done, pointer p, uint64_t size_and_order, uint64_t caller) {
     if (t && others) put(t, done ? OP_ATOMIC_UPDATE : OP_ATOMIC_LOAD, p, size_and_order, caller);
     after_atomic(t, last_of(done, p, caller));
 }

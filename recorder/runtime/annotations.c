@@ -19,11 +19,11 @@ PUBLIC void AnnotateThreadName(const char *file, int line, const char *name) {
 /* ---- locks that the program makes itself, each as a reader-writer lock ---- */
 enum { READ_LOCK = 1 << 3, TRY_FAILED = 1 << 5 };            /* of the flags */
 
-static void note_taken(const volatile void *lock, int to_write, uint64_t caller) {
+static void note_taken(pointer lock, int to_write, uint64_t caller) {
     note(to_write ? OP_WRITE_LOCK : OP_READ_LOCK, lock, caller);
 }
 
-PUBLIC void AnnotateRWLockAcquired(const char *file, int line, const volatile void *lock, long to_write) {
+PUBLIC void AnnotateRWLockAcquired(const char *file, int line, pointer lock, long to_write) {
     note_taken(lock, to_write, CALLER);
 }
 NOTES_AT(AnnotateRWLockReleased, OP_RW_UNLOCK)
@@ -71,7 +71,7 @@ static void note_where_made(fiber *new, uint64_t caller, uint64_t function) {
 PUBLIC void *__tsan_create_fiber(unsigned flags) {
     size_t size = MOST_FRAMES * sizeof(frame);
     fiber *new = __libc_malloc(sizeof *new);
-    frame *frames = mmap(0, size, PROT_READ | PROT_WRITE, MAP_PRIVATE | MAP_ANONYMOUS | MAP_NORESERVE, -1, 0);
+    frame *frames = mmap(0, size, PROT_READ | PROT_WRITE, NEW_MEMORY, -1, 0);
     if (!new || frames == MAP_FAILED) abort();
     *new = (fiber){frames, 0};
     note_where_made(new, CALLER, (uint64_t)__tsan_create_fiber + 1);

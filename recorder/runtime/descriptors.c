@@ -137,10 +137,9 @@ static void note_pieces(uint64_t seen, enum operation operation, const struct io
     }
 }
 
-static void note_message(uint64_t seen, enum operation operation, const struct msghdr *message,
-                         size_t bytes) {
+static void note_message(uint64_t seen, enum operation operation, const struct msghdr *given, size_t bytes) {
     struct msghdr m;
-    if (seen && copy_in(&m, message, sizeof m)) note_pieces(seen, operation, m.msg_iov, m.msg_iovlen, bytes);
+    if (seen && copy_in(&m, given, sizeof m)) note_pieces(seen, operation, m.msg_iov, m.msg_iovlen, bytes);
 }
 
 /* What is sent is read before the post; what is received is written after the wait. */
@@ -165,14 +164,14 @@ static void note_message(uint64_t seen, enum operation operation, const struct m
 #define SENDS_PIECES note_pieces(seen, OP_READ, p, n, MOST_BYTES)
 #define GETS_BYTES(n) if (seen) WRITES(p, n)
 #define GETS_PIECES note_pieces(seen, OP_WRITE, p, n, r)
+#define GETS_EVENTS GETS_BYTES(r * sizeof *p)
 SENDS(ssize_t, write, (int f, const void *p, size_t n), (f, p, n), SENDS_BYTES(n))
 SENDS(ssize_t, writev, (int f, const struct iovec *p, int n), (f, p, n), SENDS_PIECES)
 SENDS(ssize_t, send, (int f, const void *p, size_t n, int k), (f, p, n, k), SENDS_BYTES(n))
 SENDS(ssize_t, sendmsg, (int f, const struct msghdr *m, int k), (f, m, k),
       note_message(seen, OP_READ, m, MOST_BYTES))
 SENDS(ssize_t, sendto, (int f, const void *p, size_t n, int k, const struct sockaddr *a, socklen_t l),
-      (f, p, n, k, a, l),
-      SENDS_BYTES(n))
+      (f, p, n, k, a, l), SENDS_BYTES(n))
 SENDS(int, sendmmsg, (int f, struct mmsghdr *m, unsigned n, int k), (f, m, n, k),
       for (unsigned i = 0; i < least(n, IOV_MAX); i++) note_message(seen, OP_READ, &m[i].msg_hdr, MOST_BYTES))
 SENDS(int, eventfd_write, (int f, eventfd_t value), (f, value), )
@@ -185,20 +184,15 @@ RECEIVES(ssize_t, recvmsg, (int f, struct msghdr *m, int k), (f, m, k), note_mes
 RECEIVES(int, recvmmsg, (int f, struct mmsghdr *m, unsigned n, int k, struct timespec *d), (f, m, n, k, d),
          for (int i = 0; i < r; i++) note_message(seen, OP_WRITE, &m[i].msg_hdr, m[i].msg_len))
 RECEIVES(ssize_t, recvfrom, (int f, void *p, size_t n, int k, struct sockaddr *a, socklen_t *l),
-         (f, p, n, k, a, l),
-         GETS_BYTES(least(r, n)))
-RECEIVES(int, epoll_wait, (int f, struct epoll_event *p, int n, int ms), (f, p, n, ms),
-         GETS_BYTES(r * sizeof *p))
+         (f, p, n, k, a, l), GETS_BYTES(least(r, n)))
+RECEIVES(int, epoll_wait, (int f, struct epoll_event *p, int n, int ms), (f, p, n, ms), GETS_EVENTS)
 RECEIVES(int, epoll_pwait, (int f, struct epoll_event *p, int n, int ms, const sigset_t *s), (f, p, n, ms, s),
-         GETS_BYTES(r * sizeof *p))
-/* glibc 2.35 has it */
-int epoll_pwait2(int, struct epoll_event *, int, const struct timespec *, const sigset_t *);
-RECEIVES(int, epoll_pwait2,
-         (int f, struct epoll_event *p, int n, const struct timespec *d, const sigset_t *s), (f, p, n, d, s),
-         GETS_BYTES(r * sizeof *p))
+         GETS_EVENTS)
+int epoll_pwait2(int, struct epoll_event *, int, deadline, const sigset_t *);     /* glibc 2.35 has it */
+RECEIVES(int, epoll_pwait2, (int f, struct epoll_event *p, int n, deadline d, const sigset_t *s),
+         (f, p, n, d, s), GETS_EVENTS)
 /* At a place of a file, which is no order: a pipe has none. */
-BEFORE(ssize_t, pwrite, (int f, const void *p, size_t n, off_t at), (f, p, n, at),
-       READS(p, least(n, MOST_BYTES)))
+BEFORE(ssize_t, pwrite, (int f, const void *p, size_t n, off_t at), (f, p, n, at), SENDS_BYTES(n))
 BEFORE(ssize_t, pwritev, (int f, const struct iovec *p, int n, off_t at), (f, p, n, at), SENDS_PIECES)
 AFTER(ssize_t, pread, (int f, void *p, size_t n, off_t at), (f, p, n, at), if (r > 0) WRITES(p, r))
 AFTER(ssize_t, preadv, (int f, const struct iovec *p, int n, off_t at), (f, p, n, at), if (r > 0) GETS_PIECES)

@@ -30,7 +30,7 @@ WAKES(g_cond_signal)
 WAKES(g_cond_broadcast)
 
 /* ---- queues: what is taken out comes after all that was put in before ---- */
-typedef int (*comparison)(const void *, const void *, void *);
+typedef int (*order)(const void *, const void *, void *);
 #define TAKES_ITEM(name, form, real, parameters) \
     TAKES_BY(void *, name##form, OP_WAIT, q, real, !r, REAL(g_async_queue_try_pop##form)(q), r, parameters)
 #define QUEUE(form) \
@@ -41,8 +41,7 @@ typedef int (*comparison)(const void *, const void *, void *);
                REAL(g_async_queue_timeout_pop##form)(q, time), (void *q, uint64_t time)) \
     POSTS(g_async_queue_push##form, q, (void *q, void *item), (q, item)) \
     POSTS(g_async_queue_push_front##form, q, (void *q, void *item), (q, item)) \
-    POSTS(g_async_queue_push_sorted##form, q, \
-          (void *q, void *item, comparison f, void *more), (q, item, f, more))
+    POSTS(g_async_queue_push_sorted##form, q, (void *q, void *item, order f, void *more), (q, item, f, more))
 QUEUE()
 QUEUE(_unlocked)
 

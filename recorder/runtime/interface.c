@@ -20,9 +20,8 @@ PUBLIC size_t __sanitizer_get_heap_size(void) {
 PUBLIC size_t __sanitizer_get_free_bytes(void) { return mallinfo2().fordblks; }
 
 /* ---- reports and names of code: there are none while the program runs ---- */
-PUBLIC const char *__tsan_locate_address(void *p, char *name, size_t name_size, void **region,
-                                         size_t *region_size) {
-    if (name_size) *name = 0;
+PUBLIC const char *__tsan_locate_address(void *p, char *name, size_t room, void **region, size_t *bytes) {
+    if (room) *name = 0;
     return "";
 }
 PUBLIC void __sanitizer_symbolize_pc(void *code, const char *format, char *text, size_t size) {

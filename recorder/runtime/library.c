@@ -27,7 +27,7 @@ uint64_t begin_call(uint64_t caller) {
     return t ? caller : 0;
 }
 
-void note_range(uint64_t seen, enum operation operation, const volatile void *p, uint64_t bytes) {
+void note_range(uint64_t seen, enum operation operation, pointer p, uint64_t bytes) {
     uint64_t from = (uint64_t)p;
     if (!p || !bytes || from >= FIRST_DESCRIPTOR || bytes > FIRST_DESCRIPTOR - from) return;
     note_bytes(YIELDS_BY_LIST, operation, p, bytes, seen);
@@ -56,6 +56,8 @@ static void compare(uint64_t seen, const char *s, const char *o, size_t n, int w
     READS(s, bytes);
     READS(o, bytes);
 }
+
+static void gets_text(uint64_t seen, const char *s) { if (s) WRITES(s, text(s)); }
 
 static void copies(uint64_t seen, const char *to, const char *from) {
     READS(from, text(to));
@@ -104,12 +106,10 @@ COPIES(strncpy, (char *to, const char *from, size_t n), (to, from, n), copies_wi
 COPIES(stpncpy, (char *to, const char *from, size_t n), (to, from, n), copies_within(seen, to, from, n))
 COPIES(strcat, (char *to, const char *from), (to, from), appends(seen, to, from, SIZE_MAX))
 COPIES(strncat, (char *to, const char *from, size_t n), (to, from, n), appends(seen, to, from, n))
-AFTER(char *, strdup, (const char *s), (s), READS(s, text(s)); if (r) WRITES(r, text(r)))
-AFTER(char *, strndup, (const char *s, size_t n), (s, n),
-      READS(s, text_within(s, n)); if (r) WRITES(r, text(r)))
-AFTER(char *, __strdup, (const char *s), (s), READS(s, text(s)); if (r) WRITES(r, text(r)))
-AFTER(char *, __strndup, (const char *s, size_t n), (s, n),
-      READS(s, text_within(s, n)); if (r) WRITES(r, text(r)))
+AFTER(char *, strdup, (const char *s), (s), READS(s, text(s)), gets_text(seen, r))
+AFTER(char *, strndup, (const char *s, size_t n), (s, n), READS(s, text_within(s, n)), gets_text(seen, r))
+AFTER(char *, __strdup, (const char *s), (s), READS(s, text(s)), gets_text(seen, r))
+AFTER(char *, __strndup, (const char *s, size_t n), (s, n), READS(s, text_within(s, n)), gets_text(seen, r))
 AFTER(char *, strtok, (char *s, const char *set), (s, set), READS(set, text(set)); if (r) READS(r, text(r)))
 /* The byte after the piece becomes its end, unless it was the text's. */
 AFTER(char *, strtok_r, (char *s, const char *set, char **rest), (s, set, rest),
@@ -179,8 +179,7 @@ static void sorts(uint64_t seen, void *p, size_t count, size_t size) {
 BEFORE(void, qsort, (void *p, size_t count, size_t size, __compar_fn_t order), (p, count, size, order),
        sorts(seen, p, count, size))
 BEFORE(void, qsort_r, (void *p, size_t count, size_t size, __compar_d_fn_t order, void *more),
-       (p, count, size, order, more),
-       sorts(seen, p, count, size))
+       (p, count, size, order, more), sorts(seen, p, count, size))
 
 /* ---- files: what goes out is read before, for the call may wait ---- */
 BEFORE(int, puts, (const char *s), (s), READS(s, text(s)))
@@ -204,11 +203,9 @@ static void got_line(uint64_t seen, FILE *f, char **line, size_t *room, ssize_t 
     WRITES(room, sizeof *room);
     WRITES(*line, length + 1);
 }
-AFTER(ssize_t, getline, (char **line, size_t *n, FILE *f), (line, n, f), got_line(seen, f, line, n, r))
-AFTER(ssize_t, getdelim, (char **line, size_t *n, int c, FILE *f), (line, n, c, f),
-      got_line(seen, f, line, n, r))
-AFTER(ssize_t, __getdelim, (char **line, size_t *n, int c, FILE *f), (line, n, c, f),
-      got_line(seen, f, line, n, r))
+AFTER(ssize_t, getline, (char **s, size_t *n, FILE *f), (s, n, f), got_line(seen, f, s, n, r))
+AFTER(ssize_t, getdelim, (char **s, size_t *n, int c, FILE *f), (s, n, c, f), got_line(seen, f, s, n, r))
+AFTER(ssize_t, __getdelim, (char **s, size_t *n, int c, FILE *f), (s, n, c, f), got_line(seen, f, s, n, r))
 AFTER(ssize_t, getrandom, (void *p, size_t n, unsigned flags), (p, n, flags), if (r > 0) WRITES(p, r))
 
 /* ---- time: some results are in the library's own memory, the same for all threads ---- */
@@ -227,13 +224,11 @@ SHOWN(char, asctime, struct tm, text(r))
 AFTER(time_t, mktime, (struct tm *p), (p), READS(p, sizeof *p), WRITES(p, sizeof *p))
 
 /* ---- names: of files, users, machines ---- */
-static void gets_text(uint64_t seen, const char *s) { if (s) WRITES(s, text(s)); }
 static size_t address_bytes(int family) {
     return family == AF_INET6 ? sizeof(struct in6_addr) : sizeof(struct in_addr);
 }
 AFTER(char *, getcwd, (char *s, size_t n), (s, n), gets_text(seen, r))
-AFTER(char *, realpath, (const char *path, char *s), (path, s), if (r) READS(path, text(path)),
-      gets_text(seen, r))
+AFTER(char *, realpath, (const char *p, char *s), (p, s), if (r) READS(p, text(p)), gets_text(seen, r))
 AFTER(ssize_t, readlink, (const char *path, char *s, size_t n), (path, s, n),
       if (r > 0) READS(path, text(path)), WRITES(s, r))
 AFTER(ssize_t, readlinkat, (int f, const char *path, char *s, size_t n), (f, path, s, n),

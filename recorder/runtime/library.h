@@ -7,7 +7,7 @@
 uint64_t begin_call(uint64_t caller);
 /* Yields by the list alone, for a thread may have slept in the call before.  Nothing of a null pointer, or of
    a range that can't be there. */
-void note_range(uint64_t seen, enum operation operation, const volatile void *p, uint64_t bytes);
+void note_range(uint64_t seen, enum operation operation, pointer p, uint64_t bytes);
 #define READS(p, bytes) note_range(seen, OP_READ, p, bytes)
 #define WRITES(p, bytes) note_range(seen, OP_WRITE, p, bytes)
 

@@ -41,10 +41,9 @@ PUBLIC int setrlimit(__rlimit_resource_t resource, const struct rlimit *limit) {
     will_limit(resource, limit->rlim_cur);
     return REAL(setrlimit)(resource, limit);
 }
-PUBLIC int prlimit(pid_t process, enum __rlimit_resource resource, const struct rlimit *limit,
-                   struct rlimit *old) {
-    if (!process || process == getpid()) will_limit(resource, limit ? limit->rlim_cur : RLIM_INFINITY);
-    return REAL(prlimit)(process, resource, limit, old);
+PUBLIC int prlimit(pid_t id, enum __rlimit_resource resource, const struct rlimit *new, struct rlimit *old) {
+    if (!id || id == getpid()) will_limit(resource, new ? new->rlim_cur : RLIM_INFINITY);
+    return REAL(prlimit)(id, resource, new, old);
 }
 PUBLIC int setrlimit64(__rlimit_resource_t, const struct rlimit64 *) __attribute__((alias("setrlimit")));
 PUBLIC int prlimit64(pid_t, enum __rlimit_resource, const struct rlimit64 *,

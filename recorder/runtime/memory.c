@@ -8,9 +8,8 @@ void __libc_free(void *);
 
 /* ---- a new block is new variables; a free is a write. A thread may have slept in the call before; one that
    code without hooks calls may have a lock that nobody sees, so there the turn isn't given up ---- */
-void *allocated(void *p, size_t size, uint64_t caller) {
-    if (p)
-        note_bytes(instrumented(caller) ? MAY_YIELD : YIELDS_BY_LIST, OP_ALLOC, p, size ? size : 1, caller);
+void *allocated(void *p, size_t n, uint64_t caller) {
+    if (p) note_bytes(instrumented(caller) ? MAY_YIELD : YIELDS_BY_LIST, OP_ALLOC, p, n ? n : 1, caller);
     return p;
 }
 
@@ -119,14 +118,12 @@ static void *called_new(new_function real, size_t n, size_t align, const void *n
     void *name parameters; \
     PUBLIC void *name parameters { return called_new((new_function)(void *)REAL_IF_ANY(name), n, align, \
         nothrow, CALLER); }
-NEW(_Znwm, (size_t n), 0, 0)
-NEW(_Znam, (size_t n), 0, 0)
-NEW(_ZnwmRKSt9nothrow_t, (size_t n, const void *nothrow), 0, nothrow)
-NEW(_ZnamRKSt9nothrow_t, (size_t n, const void *nothrow), 0, nothrow)
-NEW(_ZnwmSt11align_val_t, (size_t n, size_t align), align, 0)
-NEW(_ZnamSt11align_val_t, (size_t n, size_t align), align, 0)
-NEW(_ZnwmSt11align_val_tRKSt9nothrow_t, (size_t n, size_t align, const void *nothrow), align, nothrow)
-NEW(_ZnamSt11align_val_tRKSt9nothrow_t, (size_t n, size_t align, const void *nothrow), align, nothrow)
+/* of one object, and of an array */
+#define NEWS(form, ...) NEW(_Znwm##form, __VA_ARGS__) NEW(_Znam##form, __VA_ARGS__)
+NEWS(, (size_t n), 0, 0)
+NEWS(RKSt9nothrow_t, (size_t n, const void *nothrow), 0, nothrow)
+NEWS(St11align_val_t, (size_t n, size_t align), align, 0)
+NEWS(St11align_val_tRKSt9nothrow_t, (size_t n, size_t align, const void *nothrow), align, nothrow)
 
 /* What a form has besides the block is handed on. */
 #define DELETES(name) \
@@ -136,10 +133,10 @@ NEW(_ZnamSt11align_val_tRKSt9nothrow_t, (size_t n, size_t align, const void *not
         will_free(p, CALLER); \
         __libc_free(p); \
     }
-DELETES(_ZdlPv) DELETES(_ZdaPv) DELETES(_ZdlPvm) DELETES(_ZdaPvm) DELETES(_ZdlPvRKSt9nothrow_t) DELETES(
-    _ZdaPvRKSt9nothrow_t)
-DELETES(_ZdlPvSt11align_val_t) DELETES(_ZdaPvSt11align_val_t) DELETES(_ZdlPvmSt11align_val_t) DELETES(
-    _ZdaPvmSt11align_val_t)
+DELETES(_ZdlPv) DELETES(_ZdaPv) DELETES(_ZdlPvm) DELETES(_ZdaPvm)
+DELETES(_ZdlPvRKSt9nothrow_t) DELETES(_ZdaPvRKSt9nothrow_t)
+DELETES(_ZdlPvSt11align_val_t) DELETES(_ZdaPvSt11align_val_t)
+DELETES(_ZdlPvmSt11align_val_t) DELETES(_ZdaPvmSt11align_val_t)
 DELETES(_ZdlPvSt11align_val_tRKSt9nothrow_t) DELETES(_ZdaPvSt11align_val_tRKSt9nothrow_t)
 
 /* ---- ranges: never yields, for this may be the tail of a structure's copy ---- */

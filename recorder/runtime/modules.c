@@ -183,8 +183,7 @@ static void keep_addresses(struct module gone) {
     static _Atomic int kept;
     uint64_t page = getpagesize(), from = gone.low & -page, bytes = ((gone.high + page - 1) & -page) - from;
     if (atomic_fetch_add(&kept, 1) >= MOST_GONE) return;
-    long at = syscall(SYS_mmap, from, bytes, PROT_NONE,
-                      MAP_PRIVATE | MAP_ANONYMOUS | MAP_NORESERVE | MAP_FIXED_NOREPLACE, -1, 0L);
+    long at = syscall(SYS_mmap, from, bytes, PROT_NONE, NEW_MEMORY | MAP_FIXED_NOREPLACE, -1, 0L);
     if (at > 0 && (uint64_t)at != from) syscall(SYS_munmap, at, bytes);     /* an old kernel */
 }
 

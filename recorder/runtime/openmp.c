@@ -6,8 +6,13 @@
 
 typedef char object[16];               /* its address is what it is known by */
 typedef void (*function)(void *);
-typedef struct team { object begin, end, barrier, ordered, tasks, depend; function function; void *data;
-uint64_t caller; } team;
+typedef void (*copy_function)(void *, void *);
+typedef struct team {
+    object begin, end, barrier, ordered, tasks, depend;
+    function function;
+    void *data;
+    uint64_t caller;
+} team;
 typedef struct task {
     _Atomic int users;                 /* itself while it runs, and each child */
     struct task *parent;
@@ -73,10 +78,10 @@ static void end_region(team *m) {
 #define REGION(name, parameters, arguments) REGION_BY(void, name, DONE(REAL(name) arguments), parameters)
 #define LOOP(name) \
     REGION(name, (function f, void *data, unsigned n, long a, long b, long i, long c, unsigned k), \
-        (run_region, m, n, a, b, i, c, k))
+           (run_region, m, n, a, b, i, c, k))
 #define RUNTIME_LOOP(name) \
-    REGION(name, (function f, void *data, unsigned n, long a, long b, long i, unsigned k), (run_region, m, \
-        n, a, b, i, k))
+    REGION(name, (function f, void *data, unsigned n, long a, long b, long i, unsigned k), \
+           (run_region, m, n, a, b, i, k))
 REGION(GOMP_parallel, (function f, void *data, unsigned n, unsigned k), (run_region, m, n, k))
 REGION(GOMP_parallel_sections, (function f, void *data, unsigned n, unsigned c, unsigned k),
        (run_region, m, n, c, k))
@@ -113,8 +118,8 @@ static void depart(uint64_t caller) {
 #define BARRIER(name) BARRIER_BY(void, name, DONE(REAL(name)()), (void))
 #define CANCEL_BARRIER(name) BARRIER_BY(bool, name, REAL(name)(), (void))
 BARRIER(GOMP_barrier) BARRIER(GOMP_loop_end) BARRIER(GOMP_sections_end)
-CANCEL_BARRIER(GOMP_barrier_cancel) CANCEL_BARRIER(GOMP_loop_end_cancel) CANCEL_BARRIER(
-    GOMP_sections_end_cancel)
+CANCEL_BARRIER(GOMP_barrier_cancel) CANCEL_BARRIER(GOMP_loop_end_cancel)
+CANCEL_BARRIER(GOMP_sections_end_cancel)
 
 /* The thread that gets null does the work and gives its data to the others, which wait. */
 PUBLIC void *GOMP_single_copy_start(void) {
@@ -176,7 +181,7 @@ static void run_task(void *task_) {
 }
 
 /* The task with its data after it, as the library would copy it. */
-static task *new_task(function f, void *data, void (*copy)(void *, void *), long size, long align) {
+static task *new_task(function f, void *data, copy_function copy, long size, long align) {
     task *t = calloc(1, sizeof *t + size + align);
     if (!t) abort();
     t->data = (void *)(((uintptr_t)(t + 1) + align - 1) / align * align);
@@ -190,9 +195,8 @@ static task *new_task(function f, void *data, void (*copy)(void *, void *), long
     return t;
 }
 
-PUBLIC void GOMP_task(function f, void *data, void (*copy)(void *, void *), long size, long align,
-                      bool deferred, unsigned flags,
-                      void **depend, int priority, void *detach) {
+PUBLIC void GOMP_task(function f, void *data, copy_function copy, long size, long align, bool deferred,
+                      unsigned flags, void **depend, int priority, void *detach) {
     if (!now) {                        /* outside a region it runs at once */
         REAL(GOMP_task)(f, data, copy, size, align, deferred, flags, depend, priority, detach);
         return;
@@ -222,7 +226,6 @@ static void tell_of(_Atomic int *told, const char *what) {
              "or missed\n", what);
 }
 
-typedef void (*copy_function)(void *, void *);
 #define UNSEEN(what, name, parameters, arguments) \
     PUBLIC void name parameters { \
         static _Atomic int told; \
@@ -231,8 +234,8 @@ typedef void (*copy_function)(void *, void *);
     }
 UNSEEN("taskloop", GOMP_taskloop,
        (function f, void *data, copy_function copy, long size, long align, unsigned flags, unsigned long n,
-        int priority,
-       long from, long to, long step), (f, data, copy, size, align, flags, n, priority, from, to, step))
+        int priority, long from, long to, long step),
+       (f, data, copy, size, align, flags, n, priority, from, to, step))
 UNSEEN("doacross loops", GOMP_doacross_post, (long *counts), (counts))
 UNSEEN("target regions", GOMP_target,
        (int device, function f, const void *unused, size_t count, void **addresses, size_t *sizes,

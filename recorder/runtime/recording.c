@@ -165,8 +165,8 @@ static uint64_t inside_of(const thread *t, enum operation operation, uint64_t si
 
 /* With the turn. */
 static int has_room(uint64_t count) {
-    return written + count <= most_records && written
-        + count <= atomic_load_explicit(&room, memory_order_relaxed);
+    uint64_t end = written + count;
+    return end <= most_records && end <= atomic_load_explicit(&room, memory_order_relaxed);
 }
 
 /* While a thread works: afterwards there is room for so many records, or it returns 0. */
@@ -259,8 +259,7 @@ static int is_held_back(thread *t, enum operation operation, struct record r, ui
     return held;
 }
 
-static void put_now(thread *t, enum operation operation, const volatile void *address, uint64_t size,
-                    uint64_t caller) {
+static void put_now(thread *t, enum operation operation, pointer address, uint64_t size, uint64_t caller) {
     add_contexts(t);
     uint64_t inside = inside_of(t, operation, size);
     changes += !only_reads(operation);
@@ -277,7 +276,7 @@ static void put_now(thread *t, enum operation operation, const volatile void *ad
 }
 
 /* A long range takes as long as a slice, so that ends with it; the stack of a thread that starts does not. */
-void put(thread *t, enum operation operation, const volatile void *address, uint64_t size, uint64_t caller) {
+void put(thread *t, enum operation operation, pointer address, uint64_t size, uint64_t caller) {
     enum { LONG_RANGE = 1 << 20 };
     if (begin_work(t)) put_now(t, operation, address, size, caller);
     t->range = size;
@@ -286,8 +285,7 @@ void put(thread *t, enum operation operation, const volatile void *address, uint
 }
 
 /* The record of another thread, which makes no more. */
-void put_of(thread *t, const thread *ended, enum operation operation, const volatile void *object,
-            uint64_t caller) {
+void put_of(thread *t, const thread *ended, enum operation operation, pointer object, uint64_t caller) {
     if (begin_work(t) && make_room(1)) add(ended, operation, (uint64_t)object, 0, caller);
     t->works = 0;
 }
@@ -307,8 +305,7 @@ void put_name(thread *t, thread *named, const char *name) {
     t->works = 0;
 }
 
-void note_bytes(enum yields yields, enum operation operation, const volatile void *p, uint64_t size,
-                uint64_t caller) {
+void note_bytes(enum yields yields, enum operation operation, pointer p, uint64_t size, uint64_t caller) {
     int saved = errno;
     if (size >= MAX_SIZE || (is_plain(operation) && hold_range(operation, (uint64_t)p, size, caller))) return;
     thread *t = enter_access(yields);
@@ -319,7 +316,7 @@ void note_bytes(enum yields yields, enum operation operation, const volatile voi
     errno = saved;
 }
 
-void note(enum operation operation, const volatile void *object, uint64_t caller) {
+void note(enum operation operation, pointer object, uint64_t caller) {
     note_bytes(MAY_YIELD, operation, object, 0, caller);
 }
 
@@ -463,8 +460,7 @@ int leave_recording(void) {
     leave_file(RECORD);
     leave_file(TURNS);
     in_memory = 1;
-    int going_on = has_number() && use_map(mmap(0, map_bytes(), PROT_READ | PROT_WRITE,
-                                                MAP_PRIVATE | MAP_ANONYMOUS | MAP_NORESERVE, -1, 0));
+    int going_on = has_number() && use_map(mmap(0, map_bytes(), PROT_READ | PROT_WRITE, NEW_MEMORY, -1, 0));
     if (going_on) strcpy(header, parents);
     has_strangers = is_half_told = 0;
     forget_record();

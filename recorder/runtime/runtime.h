@@ -19,6 +19,8 @@
 #pragma GCC visibility push(hidden)
 #define PUBLIC __attribute__((visibility("default")))
 #define CALLER ((uint64_t)__builtin_return_address(0))
+/* of mmap, with nothing behind it yet */
+#define NEW_MEMORY (MAP_PRIVATE | MAP_ANONYMOUS | MAP_NORESERVE)
 /* for the compiler; the processor stores in this order, and loads too */
 #define KEEP_ORDER() __asm__ volatile("" ::: "memory")
 
@@ -101,6 +103,7 @@ static inline uint64_t function_of(const thread *t) {
 }
 
 typedef const struct timespec *deadline;
+typedef const volatile void *pointer; /* to what a record is about */
 
 static inline size_t least(size_t n, size_t m) { return n < m ? n : m; }
 
@@ -258,13 +261,11 @@ int limit_record(uint64_t addresses);
 extern uint64_t changes;
 /* afterwards t has the turn, unless the recording has ended, and keeps it while it works */
 int begin_work(thread *t);
-void put(thread *t, enum operation operation, const volatile void *address, uint64_t size, uint64_t caller);
+void put(thread *t, enum operation operation, pointer address, uint64_t size, uint64_t caller);
 /* A hook of its own for one record. */
-void note_bytes(enum yields yields, enum operation operation, const volatile void *p, uint64_t size,
-                uint64_t caller);
-void note(enum operation operation, const volatile void *object, uint64_t caller);
-void put_of(thread *t, const thread *ended, enum operation operation, const volatile void *object,
-            uint64_t caller);
+void note_bytes(enum yields yields, enum operation operation, pointer p, uint64_t size, uint64_t caller);
+void note(enum operation operation, pointer object, uint64_t caller);
+void put_of(thread *t, const thread *ended, enum operation operation, pointer object, uint64_t caller);
 void put_name(thread *t, thread *named, const char *name);
 /* with the turn, at the end of a hook: so many of its hooks may be quick now */
 uint64_t begin_quick(thread *t);

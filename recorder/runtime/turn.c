@@ -328,11 +328,10 @@ struct lateness { uint64_t word; time_t since; };            /* as a waiter saw 
    its next hook, nor where it sleeps as long as t would. */
 static const char *reason_to_leave(const thread *t, uint64_t word, time_t seconds) {
     uint32_t number = due_thread();
-    const thread *awaited = HOLDER(word) ? holder_of(word) : number < thread_count ? threads[number] : 0;
+    const thread *next = HOLDER(word) ? holder_of(word) : number < thread_count ? threads[number] : 0;
     long ticks = 0;
-    if (!awaited || (awaited->system_id && is_gone(awaited->system_id)))
-        return "the thread that is due is gone";
-    int is_patient = t->idles || !gone_or_asleep(awaited->system_id, &ticks);
+    if (!next || (next->system_id && is_gone(next->system_id))) return "the thread that is due is gone";
+    int is_patient = t->idles || !gone_or_asleep(next->system_id, &ticks);
     return seconds < (is_patient ? stall_seconds : LATE_SECONDS) ? 0 : "the thread that is due does not come";
 }
 
@@ -568,8 +567,7 @@ thread *new_thread(void) {             /* with the turn; it may sleep in the sys
         ended = t->next_ended;
         memset(t, 0, sizeof *t);
     } else {
-        t = mmap(0, sizeof *t + MOST_FRAMES * sizeof *t->frames, PROT_READ | PROT_WRITE,
-                 MAP_PRIVATE | MAP_ANONYMOUS | MAP_NORESERVE, -1, 0);
+        t = mmap(0, sizeof *t + MOST_FRAMES * sizeof *t->frames, PROT_READ | PROT_WRITE, NEW_MEMORY, -1, 0);
         if (t == MAP_FAILED) return 0;
     }
     t->frames = t->own_frames;
