@@ -48,8 +48,7 @@ PUBLIC int __tsan_java_mutex_unlock_rec(void *, unsigned) __attribute__((alias("
 enum { NO_ORDER = 1 };
 void *__libc_malloc(size_t);
 void __libc_free(void *);
-/* the functions that it is in while no thread runs it */
-typedef struct { frame *frames; uint32_t depth; } fiber;
+typedef struct { frame *frames; uint32_t depth; } fiber;     /* its functions while no thread runs it */
 static __thread fiber *running, first_fiber;
 PUBLIC void *__tsan_get_current_fiber(void) { return running ? running : &first_fiber; }
 
@@ -99,8 +98,7 @@ PUBLIC void __tsan_switch_to_fiber(void *next, unsigned flags) {
 }
 
 /* Another context is in functions of its own. They aren't known but where the program told its fiber right
-   before. The real function is jumped to: a context may be taken up again when the call that saved it is
-   over. */
+   before. The real function is jumped to: a context may be taken up after the call that saved it. */
 #define SWITCHES_CONTEXT(name, words, ...) \
     PUBLIC __attribute__((optimize("optimize-sibling-calls"))) int name words { \
         if (self && !running) set_depth(self, 0); \

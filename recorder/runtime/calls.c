@@ -1,8 +1,7 @@
 /* The functions that each thread is in, for the call stacks of its accesses.  The compiler has each function
    call a hook as it begins and as it ends (also where an exception leaves it).  A *context* is a function
    with those further out: a node of a tree that all threads share, found again by its call.  So a hook moves
-   a pointer and writes nothing: the record gets a context, with a number, before its first access, and later
-   the number. */
+   a pointer and writes nothing: the record gets a context before its first access, and later its number. */
 #include "hold.h"
 #include <setjmp.h>
 
@@ -134,8 +133,7 @@ void unlock_contexts(void) { munlock(kept, sizeof kept); }
 
 /* ---- where functions lie on the stack ---- */
 /* By the return address, which stands once near the stack pointer of the function further out. In the same
-   page: what is below may be no memory, where the two functions have stacks of their own. 0 where it isn't
-   known. */
+   page: what is below may be no memory, where the two have stacks of their own. 0 where it isn't known. */
 uint64_t place_of_frame(const thread *t, uint32_t depth) {
     enum { NEAR = 512, NEAR_END = 1 << 14, PAGE = 4096 };
     const frame *f = &t->frames[depth];

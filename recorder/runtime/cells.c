@@ -56,10 +56,8 @@ cell_use *cell_uses;
 static uint64_t use_count, readers_count, memory_left, memory_of_keys;
 static char *chunks[CHUNKS];
 static uint64_t chunk_count;
-/* a chunk, and how much of it is left */
-static struct pool { char *chunk; uint64_t left; } cell_pool, key_pool;
-/* by their log_lines; each leads to another one */
-static key_line *free_tables[MOST_LOG + 1];
+static struct pool { char *chunk; uint64_t left; } cell_pool, key_pool; /* what is left of a chunk */
+static key_line *free_tables[MOST_LOG + 1]; /* by their log_lines; each leads to another one */
 
 /* ---- memory ---- */
 static void *new_memory(uint64_t bytes) {
@@ -103,8 +101,7 @@ static void *memory_from(struct pool *pool, uint64_t bytes) {
         char *chunk = memory_left >= CHUNK_BYTES && chunk_count < CHUNKS ? new_memory(CHUNK_BYTES) : 0;
         if (!chunk) return 0;
         memory_left -= CHUNK_BYTES;
-        /* all of it gets used, and at random */
-        syscall(SYS_madvise, chunk, CHUNK_BYTES, MADV_HUGEPAGE);
+        syscall(SYS_madvise, chunk, CHUNK_BYTES, MADV_HUGEPAGE); /* all of it gets used, and at random */
         pool->chunk = chunks[chunk_count++] = chunk;
         pool->left = CHUNK_BYTES;
     }

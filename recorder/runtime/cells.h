@@ -10,8 +10,7 @@ enum { KEYS_OF_LINE = 5 };             /* with these a line of a table has 64 */
 /* What is known of 8 bytes of memory. A key is a use (below), or 0, and a word: 0 if the owner's last one is
    recorded, else its position, IS_REPEATED, and above that the number of the context that it was made in. */
 typedef struct {
-    /* the serial number of the thread that alone used it lately, or 0, or READERS */
-    uint32_t owner;
+    uint32_t owner;                    /* serial number of who alone used it lately, or 0, or READERS */
     uint16_t number;                   /* of that thread in the record */
     uint16_t is_first : 1;             /* no thread used it before this phase */
     uint16_t is_only_read : 1;         /* in this phase */

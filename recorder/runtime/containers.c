@@ -96,8 +96,7 @@ LIST(4swapERS0_S1_, (list_node *x, list_node *y), (x, y), swaps(x, caller); swap
    characters a call reads and writes those that it uses; and where the block may become another one, it
    writes all of the old one. strings.py says which calls there are. */
 typedef unsigned __int128 two_words;   /* what a call returns, if not where its first word says */
-/* short ones are where the capacity is */
-typedef struct { char *characters; uint64_t length, capacity; } string;
+typedef struct { char *characters; uint64_t length, capacity; } string; /* a short one is in the capacity */
 typedef union { uint64_t n; const char *text; string *s; } word;                 /* an argument */
 typedef struct { uint64_t caller, added; string was; } string_call;
 #define ALL (~0ull)

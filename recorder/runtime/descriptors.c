@@ -10,10 +10,8 @@
 
 /* ---- a write, close or addition to an epoll comes before what reads it, gets its number or is woken ---- */
 enum { DESCRIPTORS = 1 << 16 };
-/* what leads to the same data has one number, that of one of them; plus one */
-static int pair_of[DESCRIPTORS];
-/* equal at both ends of a connection, and of a FIFO that is opened by its name; or 0 */
-static uint64_t key_of[DESCRIPTORS];
+static int pair_of[DESCRIPTORS];       /* of all that leads to the same data the number of one; plus one */
+static uint64_t key_of[DESCRIPTORS];   /* equal at both ends of a connection or of a named FIFO; or 0 */
 static char is_known[DESCRIPTORS];
 static char connects[DESCRIPTORS];     /* where a connection may come about that isn't known yet */
 

@@ -1,7 +1,6 @@
 /* The files of the record and of its list of turns, and /proc.  Their descriptors have numbers that
    programs aren't given, and are spared where they close all that they have; what reached one nevertheless
-   is seen before each use, for then the number may stand for a file of the program's.  Whatever fails
-   leaves errno. */
+   is seen before each use, for then the number may be that of a file of the program.  Faults leave errno. */
 #include "runtime.h"
 #include <fcntl.h>
 #include <sys/file.h>

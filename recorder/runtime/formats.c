@@ -1,6 +1,5 @@
-/* Formatted output and input: the format says which arguments are addresses of what is read or written.
-   Of numbered arguments ("%1$s"), and of what follows a conversion that isn't known here, nothing is
-   recorded. */
+/* Formatted output and input: the format says which arguments are addresses of what is read or written. Of
+   numbered arguments ("%1$s"), and of what follows a conversion that isn't known, nothing is recorded. */
 #include "library.h"
 #include <wchar.h>
 
@@ -94,8 +93,7 @@ static void note_output(uint64_t seen, const char *format, va_list given) {
     for (struct conversion c = next_conversion(format, OUTPUT); c.kind; c = next_conversion(c.end, OUTPUT)) {
         if (c.star) (void)va_arg(more, int);
         int precision = c.star_behind_point ? va_arg(more, int) : c.precision;
-        /* one of fewer bytes takes as many */
-        if (is_one_of(c.kind, "diouxXcCp")) (void)va_arg(more, long);
+        if (is_one_of(c.kind, "diouxXcCp")) (void)va_arg(more, long); /* one of fewer bytes takes as many */
         else if (is_one_of(c.kind, "eEfFgGaA") && c.size == 16) (void)va_arg(more, long double);
         else if (is_one_of(c.kind, "eEfFgGaA")) (void)va_arg(more, double);
         else if (is_one_of(c.kind, "sS")) note_text_of(seen, &c, va_arg(more, void *), precision);

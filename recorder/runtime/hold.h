@@ -1,8 +1,7 @@
 /* The quick hook: an access that its thread repeats in a cell that it owns, or reads with others, is held
    back by a few instructions. It is quick where no waiter doubts that the thread needs the turn (turn.c), the
    functions that it is in are recorded, and the cell has the use already. Then nothing changes but the
-   position of that use. Such a hook is a step, as others are. All calls of an access's hook are jumps, so no
-   registers are saved. */
+   position of that use. Such a hook is a step, as others are. Its calls are jumps: no registers are saved. */
 #include "runtime.h"
 #include "cells.h"
 
@@ -68,8 +67,7 @@ static inline __attribute__((always_inline))
 void hook(enum operation operation, uint64_t address, uint64_t size, uint64_t caller) {
     thread *t = self;
     if (!may_be_quick(t, address, size)) return note_access(operation, address, size, caller);
-    /* so no handler of a signal comes, which may change all that is read below */
-    t->inside = 1;
+    t->inside = 1;                     /* no handler comes now, which may change what is read below */
     KEEP_ORDER();
     cell *c = usual_cell(t, address);
     uint64_t what = caller + what_of_use((uint64_t)operation << 48 | (uint64_t)__builtin_ctzl(size) << 54,

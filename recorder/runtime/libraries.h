@@ -1,6 +1,5 @@
 /* Locks and queues of libraries that have no hooks, as their exported functions are called. Nothing of such a
-   library is needed here: its functions have the C names that they are exported by, and what they are called
-   on is an address. */
+   library is needed here: functions have the C names of their exports, and objects are addresses. */
 #pragma once
 #include "ordering.h"
 

@@ -3,8 +3,7 @@
    fault of the program's own. */
 #include "runtime.h"
 
-/* The caller, and then the thread has the turn; or 0 where nothing is to be recorded. */
-uint64_t begin_call(uint64_t caller);
+uint64_t begin_call(uint64_t caller);  /* The caller, with the turn then; or 0 where nothing is recorded. */
 /* Yields by the list alone, for a thread may have slept in the call before.  Nothing of a null pointer, or of
    a range that can't be there. */
 void note_range(uint64_t seen, enum operation operation, pointer p, uint64_t bytes);

@@ -24,8 +24,7 @@ typedef struct task {
     object begin, children;
 } task;
 
-/* the task that this thread is in; of a region a task for each thread */
-static __thread task *now;
+static __thread task *now;             /* this thread's task; of a region a task for each thread */
 
 static void leave_task(task *t) {
     while (t && atomic_fetch_sub(&t->users, 1) == 1) {

@@ -1,7 +1,6 @@
 /* The shapes of the calls that order threads: each is recorded and passed on. A call that takes something (a
    lock, a token) is recorded after it, one that gives something before it; a call that may wait does so
-   without the turn. `real` is the call itself, and r what it returns; if it returns nothing, `real` returns a
-   number beside. */
+   without the turn. `real` is the call itself and r its result; if it has none, `real` returns a number. */
 #pragma once
 #include "runtime.h"
 

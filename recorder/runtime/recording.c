@@ -1,7 +1,6 @@
 /* The record: it is mapped, and its file grows in steps.  Whatever fails ends the recording and not the
    program. Of a process made by fork the record stays in memory until it starts a thread, or has no room
-   there. Of a program that runs on it is in segments: each is a record of its own, and the oldest are
-   deleted. */
+   there. Of a program that runs on it is in segments: each is a whole record, and the oldest are deleted. */
 #include "runtime.h"
 #include "cells.h"
 #include <sys/resource.h>
@@ -14,8 +13,7 @@ int stall_seconds;
 static char *header;
 static struct record *records;
 static uint64_t written, most_records;
-/* so many of them needn't be in memory; the sum of their entries, for the header */
-static uint64_t forgotten, sum;
+static uint64_t forgotten, sum;        /* so many needn't be in memory; the sum of these, for the header */
 static uint32_t contexts;              /* of the record so far */
 uint64_t changes = 1;
 static _Atomic uint64_t room;          /* records that the file has disk space for */
@@ -98,8 +96,7 @@ static void grow(void) {
 }
 
 /* ---- segments: of a program that runs on ---- */
-/* that are kept, besides the one that is written */
-enum { MOST_SEGMENTS = 8, SEGMENT_SECONDS = 10 };
+enum { MOST_SEGMENTS = 8, SEGMENT_SECONDS = 10 }; /* that are kept, besides the one that is written */
 
 time_t seconds_now(void) {
     struct timespec time;

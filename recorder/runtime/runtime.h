@@ -31,8 +31,7 @@ typedef struct context {
     uint64_t extent;                   /* how many bytes its stack pointer is below the one further out */
     uint64_t kind;                     /* as cells.h has it in a use */
     uint32_t number, depth;            /* in the record; how many functions it has */
-    /* what was entered from here last, from the same one after this; in its bucket */
-    uint32_t inner, after, next;
+    uint32_t inner, after, next;       /* entered from here last; from the same one after; in its bucket */
 } context;
 #define NOT_RECORDED (~0u)             /* in the place of a number */
 
@@ -51,8 +50,7 @@ typedef struct thread {
     uint32_t serial;                   /* no other's ever, from 1 */
     volatile char inside;              /* the recorder: hooks met now are not recorded */
     volatile char deferred;            /* a signal came meanwhile and waits for the end of the hook */
-    /* a hook has begun that isn't quick, and has yet to ask for the turn */
-    volatile char asks;
+    volatile char asks;                /* a hook has begun that isn't quick and has yet to ask for the turn */
     /* on the record, or for a new thread, where it may sleep: then nobody takes the turn over */
     volatile char works;
     uint64_t steps;                    /* replay.c: so far */
@@ -65,8 +63,7 @@ typedef struct thread {
     uint64_t reader;                   /* as cells.h has it in a use */
     uint32_t number;                   /* in the order of creation, from 0; or that of one that is over */
     uint32_t depth;                    /* how many functions it is in */
-    /* those of its steps that were in its turns, but for quick hooks since */
-    uint64_t kept;
+    uint64_t kept;                     /* its steps that were in its turns, but for quick hooks since */
     uint64_t quick_from;               /* since so many steps its hooks may be quick */
     pid_t system_id;
     pthread_t handle;
@@ -84,8 +81,7 @@ typedef struct thread {
     int cancel_state;                  /* when its hook ends */
     uint64_t range;                    /* how many bytes its last record accesses */
     char name[2 * NAME_PIECE];         /* that the program gave it, and zeros */
-    /* in a replay: it waits for what others are to do, so it is in no hurry */
-    char idles;
+    char idles;                        /* in a replay: it waits for what others do, so it is in no hurry */
     struct thread *next_ended;
     int exit_rounds;                   /* of destructors of thread-specific data */
     void *(*function)(void *);         /* what it runs; or of a C11 thread the next */
@@ -124,11 +120,9 @@ enum yields { NEVER_YIELD, YIELDS_BY_LIST, MAY_YIELD };      /* by the list alon
 extern __thread thread *self __attribute__((tls_model("initial-exec")));
 extern volatile int recording;
 void begin_turns(int slice, uint64_t seed);                  /* with 0 slices of many lengths */
-/* in a process made by fork, where there is t alone; it has the turn */
-void restart_turns(thread *t);
+void restart_turns(thread *t);         /* in a process made by fork, where t is alone; it has the turn */
 void for_all_threads(void (*step)(thread *t));               /* that are there; with the turn */
-/* all threads run free from here on; returns whether they took turns before */
-int end_turns(void);
+int end_turns(void);                   /* all threads run free from here on; did they take turns before? */
 thread *new_thread(void);
 void end_thread(thread *t);            /* it is joined, and the record has that; or it was not started */
 enum way_to_end { IS_DETACHED = 1, LEAVES = 2 };             /* LEAVES: its last destructors run */
@@ -140,21 +134,17 @@ thread *newest_with(void *argument);   /* that isn't over */
 thread *enter(enum yields yields);
 thread *enter_access(enum yields yields);                    /* to put one record, and nothing before */
 void leave(thread *t);
-/* no signal is handled, nor the thread cancelled, until it has left the hook */
-void begin_inside(thread *t);
-/* what isn't a hook ends with this alone: quick ones before it may go on */
-void end_inside(thread *t);
+void begin_inside(thread *t);          /* no signal is handled, nor the thread cancelled, until it leaves */
+void end_inside(thread *t);            /* what isn't a hook ends with this alone: quick ones may go on */
 void deliver_deferred(thread *t);      /* the signals that came in its hook */
 void give_turn(thread *t);
 void take_turn(thread *t);
 int keep_turn(thread *t);
 void keep_turn_after_call(thread *t);
 int let_another_run(thread *t);        /* if it may help; says whether */
-/* with the turn: what was asked for wasn't there, or the like; returns 1 */
-int note_unusual(thread *t);
+int note_unusual(thread *t);           /* with the turn: what was asked for wasn't there, say; returns 1 */
 int was_unusual(thread *t);            /* with the turn, in a replay: it was so at this step; else 0 */
-/* in a replay, in the place of a call that waits; 0 where the call has to */
-int waits_for_list(thread *t);
+int waits_for_list(thread *t);         /* in a replay, in place of a call that waits; 0: the call has to */
 void note_spin(thread *t, uint64_t last);        /* in a hook that leaves the value as it was */
 /* who has the turn, where no waiter doubts that it needs it still; else NOBODY_IS_QUICK */
 extern thread *volatile quick_holder;
@@ -220,8 +210,7 @@ void leave_number(int descriptor);     /* so that the program can have it */
 int keep_path(const char *path);
 int has_number(void);                  /* is there a record for each process? */
 int refuse(const char *path);          /* says that it can't be written, as errno has it; returns 0 */
-/* will it be allowed so many? */
-int open_file(const char *command, uint64_t first_bytes, uint64_t segment);
+int open_file(const char *command, uint64_t first_bytes, uint64_t segment); /* will it be allowed so many? */
 void drop_segment(uint64_t segment);   /* deletes its file, if that is there */
 #define ANY_TURNS "shb-turns "        /* a list of turns begins with that */
 int open_turns(uint64_t first_bytes);  /* the list beside the record */
@@ -233,8 +222,7 @@ int take_file(void);
 void leave_file(enum kept_file which);
 int open_proc(void);
 int read_task_file(pid_t system_id, const char *leaf, char *text, int size);
-/* bytes that the disk has for more of the record; -1 where nobody says */
-uint64_t free_space(void);
+uint64_t free_space(void);             /* bytes of the disk for more of the record; -1 where nobody says */
 
 /* recording.c: the record. */
 extern int stall_seconds;
@@ -250,15 +238,13 @@ void next_segment(thread *t);          /* in a hook, before it does anything */
 void stop_recording(const char *reason);
 void note_end(const char *how);
 const char *own_end(void);             /* as note_end takes it, where nothing stopped the recording */
-/* a hook met a thread that nobody saw begin: its accesses are missed */
-void note_stranger(void);
+void note_stranger(void);              /* a hook met a thread that nobody saw begin: accesses are missed */
 void note_text(const char *line);      /* adds a line to the header */
 const char *own_command(void);         /* that line of the header */
 void unlock_record(void);
 void give_back_room(void);
 int limit_record(uint64_t addresses);
-/* records so far of anything but reads, and writes that were held back */
-extern uint64_t changes;
+extern uint64_t changes;               /* records of anything but reads so far, and writes held back */
 /* afterwards t has the turn, unless the recording has ended, and keeps it while it works */
 int begin_work(thread *t);
 void put(thread *t, enum operation operation, pointer address, uint64_t size, uint64_t caller);
@@ -267,8 +253,7 @@ void note_bytes(enum yields yields, enum operation operation, pointer p, uint64_
 void note(enum operation operation, pointer object, uint64_t caller);
 void put_of(thread *t, const thread *ended, enum operation operation, pointer object, uint64_t caller);
 void put_name(thread *t, thread *named, const char *name);
-/* with the turn, at the end of a hook: so many of its hooks may be quick now */
-uint64_t begin_quick(thread *t);
+uint64_t begin_quick(thread *t);       /* with the turn, at a hook's end: so many hooks may be quick now */
 void end_quick(thread *t);             /* with the turn; or under the guard, by the one who took it over */
 
 /* held.c: the locks that are held, with which each segment of a record begins. */
@@ -288,8 +273,7 @@ static inline const struct module *module_of(uint64_t code) {
     return 0;
 }
 static inline int instrumented(uint64_t caller) { return module_of(caller) != 0; }
-/* the begin and end of its objects are not recorded */
-int tells_its_own_order(uint64_t caller);
+int tells_its_own_order(uint64_t caller); /* the begin and end of its objects are not recorded */
 void *next_symbol(const char *name);
 void *library_symbol(const char *name);                      /* also of a library that came by dlopen */
 int program_has(const char *name);     /* or a library before this one: a function that this one has, too */
@@ -317,8 +301,7 @@ static inline void *function_of_name(struct forwarded *f) {
 
 /* accesses.c: a quick hook (hold.h) of a range whose cells have the use in a first phase. Is it held back? */
 int hold_range(enum operation operation, uint64_t address, uint64_t size, uint64_t caller);
-/* an atomic load by the caller, who waits for nobody */
-int load_acquire(const int *p, uint64_t caller);
+int load_acquire(const int *p, uint64_t caller); /* an atomic load by the caller, who waits for nobody */
 
 /* memory.c */
 void *allocated(void *p, size_t size, uint64_t caller);      /* notes new variables; returns p */
@@ -328,8 +311,7 @@ void watch_crashes(void);
 
 /* descriptors.c */
 void unlock_keys(void);                /* in a process made by fork: another thread may have had their lock */
-/* of what may not be there: then the call will say so */
-int copy_in(void *to, const void *from, size_t bytes);
+int copy_in(void *to, const void *from, size_t bytes); /* of what may not be there; the call will say so */
 
 /* waits.c */
 void let_others_run(void);             /* gives the turn up before a call that may wait */

@@ -4,8 +4,7 @@
 #include <ucontext.h>
 
 static struct sigaction handlers[NSIG];
-/* so many before a handler may give the turn up: an access may lie under it */
-enum { HANDLER_HOOKS = 1000 };
+enum { HANDLER_HOOKS = 1000 };         /* before a handler gives the turn up: an access may lie under it */
 
 static int from_the_code_itself(int signal) {
     return signal == SIGSEGV || signal == SIGBUS || signal == SIGFPE || signal == SIGILL || signal == SIGTRAP

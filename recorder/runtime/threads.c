@@ -168,8 +168,7 @@ __attribute__((constructor(101))) static void begin(void) {
     segment_records = strstr(path, "%s") ? setting("SHB_SEGMENT", 1, MOST_SET, 0) : 0;
     if (!open_recording(path, setting("SHB_RECORDS", 1, MOST_SET, 0),
                         setting("SHB_CELLS", 0, MOST_SET, CELL_MEGABYTES) << 20)) return;
-    /* a program started by this one would write over it */
-    if (!has_number()) unsetenv("SHB_RECORD");
+    if (!has_number()) unsetenv("SHB_RECORD"); /* a program started by this one would write over it */
     note_modules();
     if (is_behind_the_c_library()) {
         note_end("the C library comes before the recorder's, so no thread is seen");
@@ -288,8 +287,7 @@ static int create_in_hook(thread *t, thread start, pthread_t *handle, const pthr
     child->ends = is_detached(attributes, caller);
     others++;
     put(t, OP_FORK, (void *)(uint64_t)child->number, 0, caller);
-    /* where the caller wants it only when it is known: others may read that */
-    pthread_t created;
+    pthread_t created;                 /* the caller's only when it is known: others may read that */
     int error = start_blocked(t, child, &created, attributes);
     if (!error) wait_for_start(child);
     keep_turn_after_call(t);

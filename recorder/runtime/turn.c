@@ -75,12 +75,10 @@ static uint64_t random_state = 88172645463325252ull;
 static int slice, last_slice, slices, given_slice;
 static thread *held;                   /* one of the waiters, or nobody; under the guard */
 thread *volatile quick_holder = NOBODY_IS_QUICK;             /* changed under the guard */
-/* who has accepted the turn, and has neither given nor lost it; under the guard */
-static thread *holder;
+static thread *holder;                 /* who accepted the turn and has it still; under the guard */
 static int doubters;                   /* under the guard */
 static int has_barrier;                /* of the system, for all threads; else no hook is quick */
-/* a list of detached ones that run their last destructors, or are gone; with the turn */
-static thread *leaving;
+static thread *leaving;                /* detached ones in their last destructors, or gone; with the turn */
 
 static uint64_t draw(void) {           /* xorshift; with the turn or the guard */
     random_state ^= random_state << 13;
@@ -267,8 +265,7 @@ static int is_gone(pid_t system_id) { return syscall(SYS_tgkill, getpid(), syste
    Where nobody can say, the recording ends. */
 static int gone_or_asleep(pid_t system_id, long *ticks) {
     char text[512];
-    /* its number was used again, by one that isn't there yet */
-    if (!system_id || is_gone(system_id)) return 1;
+    if (!system_id || is_gone(system_id)) return 1; /* the number was used again, by one that is to come */
     int n = read_task_file(system_id, "stat", text, sizeof text);
     char *p = n > 0 ? strrchr(text, ')') : 0;
     if (!p || !p[1]) {
@@ -281,8 +278,7 @@ static int gone_or_asleep(pid_t system_id, long *ticks) {
     if (state == 'Z' || state == 'X') return 1;
     if (state != 'S' && state != 'D') return 0;
     n = read_task_file(system_id, "syscall", text, sizeof text);
-    /* it gave up its rights: a page fault is waited for in state D */
-    if (n <= 0) return state == 'S';
+    if (n <= 0) return state == 'S';   /* it gave up its rights: a page fault is waited for in state D */
     return text[0] >= '0' && text[0] <= '9';
 }
 
@@ -371,8 +367,7 @@ void take_turn(thread *t) {
 }
 
 /* Lets another thread run a slice, which may give back the lock that t wants: who slept in the system for it
-   would mostly come too late.  Not where nobody wants the turn, nor where slices are long: there to sleep
-   costs less. */
+   would mostly be late.  Not where nobody wants the turn, nor where slices are long: to sleep costs less */
 int let_another_run(thread *t) {
     if (!recording) return 0;
     int gives = is_replaying ? --t->quantum <= 0 : waiters && are_slices_short();

@@ -53,8 +53,7 @@ BEGINS_READING(urcu_qsbr_register_thread)
 ENDS_READING(urcu_qsbr_unregister_thread)
 
 /* ---- pointers: who reads one comes after who made it known. Of a reader the value alone is known here.
-   Values that share a byte here share their order; the block itself is none of it, for that would be a use of
-   the block ---- */
+   Values that share a byte here share their order; the block is none of it, for that would use it ---- */
 static char values[1 << 12];
 static char *of_value(void *value) { return &values[((uint64_t)value >> 4) % sizeof values]; }
 
