@@ -1,6 +1,7 @@
 """The words of the command, which the Makefile calls."""
 
 import argparse
+import hashlib
 import os
 import pathlib
 import subprocess
@@ -24,8 +25,6 @@ def arguments(words):
     parser.add_argument("--prefix", default="/usr/local",
                         help="where the commands will be used (%(default)s)")
     parser.add_argument("--destdir", default="", help="a folder to install below, as packagers need it")
-    parser.add_argument("--out", type=pathlib.Path, default=sources.TOP,
-                        help="with dist and deb: the folder for the package (%(default)s)")
     parser.add_argument("what", choices=("install", "uninstall", "dist", "deb"))
     return parser.parse_args(words)
 
@@ -90,7 +89,7 @@ def dist(options):
         for path in sorted((made / "share/doc/shb").iterdir()):
             (made / path.name).symlink_to(f"share/doc/shb/{path.name}")
         top = f"shb-{name}-x86_64-linux"
-        write_package(options.out / f"{top}.tar.xz", package.archive(made, top, seconds))
+        write_package(f"{top}.tar.xz", package.archive(made, top, seconds))
 
 
 def deb(options):
@@ -100,15 +99,15 @@ def deb(options):
         made.mkdir(parents=True)
         name, seconds = packaged(options, made, "/usr", "/usr/lib/shb/libtsan.so", package.strip)
         version = name.replace("-", "+")    # Debian takes what follows a hyphen for the packaging's revision
-        write_package(options.out / f"shb_{version}_amd64.deb",
+        write_package(f"shb_{version}_amd64.deb",
                       package.debian(made, version, sources.author(), seconds))
 
 
-def write_package(path, content):
+def write_package(name, content):
     """Writes a package, and beside it its checksum, as `sha256sum --check` reads it."""
-    put(path, content)
-    put(path.with_name(f"{path.name}.sha256"), package.checksum_line(content, path.name))
-    print(path)
+    put(sources.TOP / name, content)
+    put(sources.TOP / f"{name}.sha256", f"{hashlib.sha256(content).hexdigest()}  {name}\n".encode())
+    print(sources.TOP / name)
 
 
 def main(words):

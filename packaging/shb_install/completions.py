@@ -113,22 +113,20 @@ def zsh_option(option, name):
 
 # ---- fish ----
 def fish(help_, helps):
-    inner = subcommands(help_, helps)
+    inner, complete = subcommands(help_, helps), f"complete -c {help_.command}"
+    first, after = f"{complete} -n __fish_use_subcommand", f"{complete} -n '__fish_seen_subcommand_from %s'"
     lines = [f"# Completes {help_.command} in fish; made from its help."]
-    for name, text in help_.commands.items():
-        lines.append(f"complete -c {help_.command} -n __fish_use_subcommand -f -a {name} -d "
-                     f"{fish_quoted(text)}")
+    lines += [f"{first} -f -a {name} -d {fish_quoted(text)}" for name, text in help_.commands.items()]
     if inner:
-        lines.append(f"complete -c {help_.command} -n __fish_use_subcommand -f -a help -d 'Prints help'")
-        lines.append(f"complete -c {help_.command} -n '__fish_seen_subcommand_from help' -f -a "
-                     f"{fish_quoted(' '.join(inner))}")
-    lines += fish_options(help_, help_.command, "-n __fish_use_subcommand " if inner else "")
+        lines += [f"{first} -f -a help -d 'Prints help'",
+                  f"{after % 'help'} -f -a {fish_quoted(' '.join(inner))}"]
+    lines += fish_options(help_, first if inner else complete)
     for name, sub_help in inner.items():
-        lines += fish_options(sub_help, help_.command, f"-n '__fish_seen_subcommand_from {name}' ")
+        lines += fish_options(sub_help, after % name)
     return "\n".join(lines) + "\n"
 
 
-def fish_options(help_, command, where):
+def fish_options(help_, complete):
     lines = []
     for option in help_.options:
         words = [f"-l {name[2:]}" if name.startswith("--") else f"-s {name[1:]}" for name in option.names]
@@ -138,7 +136,7 @@ def fish_options(help_, command, where):
             words.append("-r -F")
         elif option.value:
             words.append("-x")
-        lines.append(f"complete -c {command} {where}{' '.join(words)} -d {fish_quoted(option.gist)}")
+        lines.append(f"{complete} {' '.join(words)} -d {fish_quoted(option.gist)}")
     return lines
 
 

@@ -113,10 +113,6 @@ def archive(tree, top, seconds):
     return packed.getvalue()
 
 
-def checksum_line(content, name):
-    return f"{hashlib.sha256(content).hexdigest()}  {name}\n".encode()
-
-
 def need_dpkg():
     if not shutil.which("dpkg-deb"):
         raise Refused("dpkg-deb isn't installed; it makes packages of Debian")

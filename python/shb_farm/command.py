@@ -105,8 +105,10 @@ def arguments(words):
 
 def joined(words):
     """The words of the command line, `--sbatch` and its value as one: that begins with a dash too."""
-    at = words.index("--sbatch") if "--sbatch" in words[:-1] else len(words)
-    return [*words[:at], *("=".join(words[at:at + 2]) for _ in words[at:at + 1]), *words[at + 2:]]
+    if "--sbatch" not in words[:-1]:
+        return words
+    at = words.index("--sbatch")
+    return [*words[:at], f"--sbatch={words[at + 1]}", *words[at + 2:]]
 
 
 def shell_words(text):
@@ -186,7 +188,7 @@ def report_of(work, name, ending):
     """Where the full report of a trace is, below the folder of the outcomes, or why there is none."""
     if ending.kind != "report":
         return "missing" if ending.kind == "missing" else tables.why(ending)
-    return os.path.relpath(passes.kept_path(work.out, name), work.out)
+    return os.path.relpath(passes.full_path(work.out, name, "report"), work.out)
 
 
 def run(options):

@@ -87,14 +87,10 @@ def outcome_path(out, form, name):
     return pathlib.Path(out) / FOLDER_OF[form] / f"{key_of(name)}.outcome"
 
 
-def found_path(out, name):
-    """What the view says of the places of a trace."""
-    return pathlib.Path(out) / FOLDER_OF[FULL] / f"{key_of(name)}.json"
-
-
-def kept_path(out, name):
-    """The report that was kept of a trace in a pass for full ones; a too long trace's has no schedules."""
-    return pathlib.Path(out) / FOLDER_OF[FULL] / f"{key_of(name)}.report"
+def full_path(out, name, ending):
+    """What a pass for full reports kept of a trace: the `report`, without schedules of one that is too long,
+    or the `json` with what the view says of its places."""
+    return pathlib.Path(out) / FOLDER_OF[FULL] / f"{key_of(name)}.{ending}"
 
 
 def stands(outcome, work, name, stamp):
@@ -111,5 +107,5 @@ def is_final(outcome, work, name):
         return int(outcome.words) >= limit
     if work.form == LIST or outcome.kind != "report":
         return True
-    path = kept_path(work.out, name)
+    path = full_path(work.out, name, "report")
     return path.exists() and os.stat(path).st_size == int(outcome.words)

@@ -58,7 +58,7 @@ def kept(work, name, trace):
         if work.view and is_full:
             put_found(work, trace, name)
         size = os.fstat(out.fileno()).st_size
-        put_file(new, passes.kept_path(work.out, name))
+        put_file(new, passes.full_path(work.out, name, "report"))
         return End("report", str(size))
 
 
@@ -113,7 +113,7 @@ def place_of(place):
 def put_found(work, trace, name):
     """Has the view say what is known of the places of a trace. If it fails, that is left out."""
     stacks = calls.file_of(work.traces, name, work.links)
-    path = passes.found_path(work.out, name)
+    path = passes.full_path(work.out, name, "json")
     path.parent.mkdir(parents=True, exist_ok=True)
     beside = ["--stacks", stacks] if stacks else []
     words = [*started_by(work.view), "--shb", work.shb, "--json", str(path), *beside,

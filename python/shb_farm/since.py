@@ -17,21 +17,14 @@ MOST_BYTES = 1 << 30
 NAME = "places.json"
 
 
-class Since(collections.namedtuple("Since", "name new same gone keys")):
-    """What is new since `name`: how many places are new and the same, those that are gone, as their two
-    locations and variables, and the keys of the earlier ones."""
-
-    def state_of(self, row):
-        return "same" if keys_of_row(row) <= self.keys else "new"
+# What is new since `name`: how many places are new and the same; those that are gone, as their two locations
+# and variables; and `new` or `same` by the key of each row.
+Since = collections.namedtuple("Since", "name new same gone states")
 
 
-def keys_of_row(row):
-    fields, _ = known.fields_of(row.sides)
-    return keys(fields, [name for name, _ in row.variables])
-
-
-def keys(fields, variables):
+def keys(sides, variables):
     """What a place is compared by: its two sides, with each variable."""
+    fields, _ = known.fields_of(sides)
     return {(*fields, variable) for variable in known.lasting_names(variables) or [b""]}
 
 
@@ -61,8 +54,7 @@ def parsed(text):
 
 def keys_of_entry(entry):
     sides = [side_of(access) for access in entry["accesses"]]
-    fields, _ = known.fields_of(sides)
-    return keys(fields, [one["name"].encode("utf-8", "surrogatepass") for one in entry["variables"]])
+    return keys(sides, [one["name"].encode("utf-8", "surrogatepass") for one in entry["variables"]])
 
 
 def side_of(access):
@@ -74,8 +66,10 @@ def side_of(access):
 
 
 def compared(name, earlier, rows):
-    before = set().union(*(keys for keys, _ in earlier))
-    now = set().union(*map(keys_of_row, rows))
-    gone = [words for keys, words in earlier if not keys & now]
-    new = sum(row.places for row in rows if not keys_of_row(row) <= before)
-    return Since(name, new, sum(row.places for row in rows) - new, gone, before)
+    before = set().union(*(its for its, _ in earlier))
+    now = {row.key: keys(row.sides, [name for name, _ in row.variables]) for row in rows}
+    all_now = set().union(*now.values())
+    gone = [words for its, words in earlier if not its & all_now]
+    states = {key: "same" if its <= before else "new" for key, its in now.items()}
+    new = sum(row.places for row in rows if states[row.key] == "new")
+    return Since(name, new, sum(row.places for row in rows) - new, gone, states)

@@ -19,7 +19,7 @@ class Found(collections.namedtuple("Found", "rows endings facts stale since stat
 
     def state_since(self, row):
         """Whether a row is new or the same; nothing where that isn't asked."""
-        return self.since.state_of(row) if self.since else ""
+        return self.since.states[row.key] if self.since else ""
 
 
 def field(text):

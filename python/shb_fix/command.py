@@ -55,22 +55,18 @@ class Trace:
 
     def __init__(self, file, repairs):
         self.file, self.lives, self.uses, self.count = file, threads.Lives(), locks.Uses(), 0
-        for event in threads.named_apart(lines.events_of(self.from_start(), repairs), repairs):
+        for event in threads.named_apart(lines.events_of(file, repairs), repairs):
             self.lives.note(event)
             self.uses.note(event)
             self.count = event.line
         self.plan = threads.Plan(self.lives, repairs)
 
-    def from_start(self):
-        self.file.seek(0)
-        return self.file
-
     def read(self, repairs):
         """The repaired events, and the state of the locks after them."""
         unnoted = Repairs()
-        read = itertools.takewhile(lambda event: event.line <= self.count,
-                                   lines.events_of(self.from_start(), unnoted))
-        events = self.plan.followed(threads.named_apart(read, unnoted))
+        events = lines.events_of(self.file, unnoted)
+        events = itertools.takewhile(lambda event: event.line <= self.count, events)
+        events = self.plan.followed(threads.named_apart(events, unnoted))
         events = locks.with_reader_locks(locks.with_waits(events, repairs), self.uses, repairs)
         sections = locks.Sections(self.plan.forked, repairs)
         return locks.with_volatiles(sections.whole(events), self.uses, repairs), sections

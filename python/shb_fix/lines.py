@@ -40,7 +40,8 @@ def event_of(number, text, repairs):
 
 
 def events_of(file, repairs):
-    """The events of a file, in order. A line that is no event is dropped, and noted."""
+    """The events of a file from its beginning. A line that is no event is dropped, and noted."""
+    file.seek(0)
     for number, line in enumerate(file, 1):
         text = line.rstrip(b"\r\n")
         if number == 1 and text.startswith(MARK):
@@ -49,10 +50,10 @@ def events_of(file, repairs):
         if not text:
             continue
         event = event_of(number, text, repairs)
-        if event is None:
+        if event:
+            yield event
+        else:
             repairs.note(number, "is no event", f"`{printable(text, COLUMNS)}` is no event: dropped")
-            continue
-        yield event
 
 
 def kind_of(file):
