@@ -27,8 +27,8 @@ static __attribute__((noinline)) void note_link(enum operation operation, const 
 
 /* ---- trees ---- */
 #define STEP(name) \
-    HOOKED(GLIBCXX_3.4, tree_node *, name, (tree_node *x), (x), READS_LINK(x->right); if (!x->right) \
-        READS_LINK(x->parent))
+    HOOKED(GLIBCXX_3.4, tree_node *, name, (tree_node *x), (x), \
+           READS_LINK(x->right); if (!x->right) READS_LINK(x->parent))
 STEP(_ZSt18_Rb_tree_incrementPSt18_Rb_tree_node_base)
 STEP(_ZSt18_Rb_tree_incrementPKSt18_Rb_tree_node_base)
 /* Before the end is the last one, as it has it in the place of a right one. */

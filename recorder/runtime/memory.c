@@ -116,8 +116,9 @@ static void *called_new(new_function real, size_t n, size_t align, const void *n
 
 #define NEW(name, parameters, align, nothrow) \
     void *name parameters; \
-    PUBLIC void *name parameters { return called_new((new_function)(void *)REAL_IF_ANY(name), n, align, \
-        nothrow, CALLER); }
+    PUBLIC void *name parameters { \
+        return called_new((new_function)(void *)REAL_IF_ANY(name), n, align, nothrow, CALLER); \
+    }
 /* of one object, and of an array */
 #define NEWS(form, ...) NEW(_Znwm##form, __VA_ARGS__) NEW(_Znam##form, __VA_ARGS__)
 NEWS(, (size_t n), 0, 0)

@@ -13,8 +13,8 @@ typedef struct { int64_t time; uint32_t more, type; } deadline_timer;
 #define TRY_FOR(name, operation, done) \
     TAKES_BY(bool, name, operation, m, REAL(name)(m, ms), !r && ms, REAL(name)(m, 0), done, (void *m, int ms))
 #define TRY_UNTIL(name, operation, done) \
-    TAKES_BY(bool, name, operation, m, REAL(name)(m, end), !r, REAL(name)(m, NO_TIME), done, (void *m, \
-        deadline_timer end))
+    TAKES_BY(bool, name, operation, m, REAL(name)(m, end), !r, REAL(name)(m, NO_TIME), done, \
+             (void *m, deadline_timer end))
 
 /* ---- QMutex, which in Qt 5 is a QRecursiveMutex as well ---- */
 TRY_FOR(_ZN6QMutex7tryLockEi, OP_LOCK, r)
@@ -59,8 +59,7 @@ TRIES_BY(bool, _ZN10QSemaphore10tryAcquireEi, OP_WAIT, s, REAL(_ZN10QSemaphore10
 TAKES_BY(void, _ZN10QSemaphore7acquireEi, OP_WAIT, s, DONE(REAL(_ZN10QSemaphore7acquireEi)(s, n)), r,
          !REAL(_ZN10QSemaphore10tryAcquireEi)(s, n), 1, (void *s, int n))
 TAKES_BY(bool, _ZN10QSemaphore10tryAcquireEii, OP_WAIT, s, REAL(_ZN10QSemaphore10tryAcquireEii)(s, n, ms),
-         !r && ms,
-         REAL(_ZN10QSemaphore10tryAcquireEi)(s, n), r, (void *s, int n, int ms))
+         !r && ms, REAL(_ZN10QSemaphore10tryAcquireEi)(s, n), r, (void *s, int n, int ms))
 TAKES_BY(bool, _ZN10QSemaphore10tryAcquireEi14QDeadlineTimer, OP_WAIT, s,
          REAL(_ZN10QSemaphore10tryAcquireEi14QDeadlineTimer)(s, n, end), !r,
          REAL(_ZN10QSemaphore10tryAcquireEi)(s, n), r, (void *s, int n, deadline_timer end))
@@ -104,8 +103,8 @@ static void take_both_ways(void *m) {
 }
 #define WAITS_BOTH_WAYS(name, more, arguments) \
     WAITS_FOR(bool, name, written == m ? OP_WRITE_LOCK : OP_READ_LOCK, OP_RW_UNLOCK, \
-             REAL(_ZN14QReadWriteLock6unlockEv)(m), try_both_ways(m), take_both_ways(m), \
-                 REAL(name) arguments, (void *c, void *m, more))
+              REAL(_ZN14QReadWriteLock6unlockEv)(m), try_both_ways(m), take_both_ways(m), \
+              REAL(name) arguments, (void *c, void *m, more))
 WAITS_BOTH_WAYS(_ZN14QWaitCondition4waitEP14QReadWriteLockm, unsigned long ms, (c, m, ms))
 WAITS_BOTH_WAYS(_ZN14QWaitCondition4waitEP14QReadWriteLock14QDeadlineTimer, deadline_timer end, (c, m, end))
 WAKES(_ZN14QWaitCondition7wakeOneEv)

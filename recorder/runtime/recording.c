@@ -319,9 +319,7 @@ void note(enum operation operation, pointer object, uint64_t caller) {
 
 /* ---- begin and end ---- */
 /* How the recording ended, for the converter; "" takes it back. */
-void note_end(const char *how) {
-    if (header) snprintf(header + ENDED_AT, ENDED_BYTES, "%s", how);
-}
+void note_end(const char *how) { if (header) snprintf(header + ENDED_AT, ENDED_BYTES, "%s", how); }
 
 static _Atomic int has_strangers;
 

@@ -134,9 +134,7 @@ static void tell_of_child(void) {
    system call is made: a filter of the program's may forbid it (limits.c). */
 static int is_own(void) { return recording && process && getpid() == process; }
 
-__attribute__((destructor(101))) static void end(void) {
-    if (is_own()) close_recording();
-}
+__attribute__((destructor(101))) static void end(void) { if (is_own()) close_recording(); }
 
 /* shb-record has this library loaded first in the program that it starts, and in none that this one starts:
    what they have there. */
