@@ -251,6 +251,8 @@ class Known:
 
     def lines_at(self, sides):
         """The numbers of the lines whose first two fields name these sides."""
+        if not self.lines:
+            return set()
         one, other = (side.keys() for side in sides)
         found = {line for both in itertools.product(one, other)
                  for line in self.exact.get(tuple(sorted(both)), ())}

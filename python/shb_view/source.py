@@ -3,7 +3,6 @@ is looked up in an index of the folders that were named, and where it was asked 
 of the program's sources."""
 
 import collections
-import functools
 import os
 import re
 
@@ -36,7 +35,6 @@ class Source:
     def __init__(self, folders, written, recorded):
         """`written` is when the trace was, `recorded` has files by their names in locations."""
         self.folders, self.written, self.recorded = folders, written, recorded
-        self.read = functools.lru_cache(maxsize=64)(sources.read_lines)
         for folder in folders:
             if not os.path.isdir(folder):
                 raise Refused(f"--source: {readable(folder)} isn't a folder")
@@ -58,7 +56,7 @@ class Source:
                      "the folder of one of them")
             return Place(path, number, [], fault, False)
         [(name, file)] = candidates
-        lines, modified, fault = self.read(file)
+        lines, modified, fault = sources.read_lines(file)
         is_newer = modified > self.written
         if not fault and not 0 < number <= len(lines):
             fault = f"the file has {counted(len(lines), 'line')}"
