@@ -25,7 +25,7 @@ OTHER = "doesn't have the stacks of this trace"
 MOST_DEEP = 200  # calls of a stack that are looked at
 MOST_FRAMES = 2_000  # of these calls, of which inlined code has several each
 MOST_LINE = 1 << 20  # bytes of a line
-NUMBER = re.compile(rb"[0-9]{1,18}")
+MOST_DIGITS = 18    # of a number
 SUM = re.compile(rb"[0-9a-f]{16}")  # of a line's text
 
 # A function and the place in it. The location is empty if it called code without hooks, which called on.
@@ -191,7 +191,7 @@ def fields_of(kind, rest):
 
 
 def whole(text):
-    if not NUMBER.fullmatch(text):
+    if not text.isdigit() or len(text) > MOST_DIGITS:
         raise ValueError
     return int(text)
 

@@ -48,9 +48,10 @@ class Uses:
         kind = fields[0]
         if kind == b"use":
             word, variable, local, location, *sums = fields[1:]
-            if word not in WORDS or len(sums) % 3:
+            counts = sums[1::3]
+            if word not in WORDS or len(sums) % 3 or counts and not b"".join(counts).isdigit():
                 raise ValueError
-            its = zip(sums[::3], map(whole, sums[1::3]), sums[2::3])
+            its = zip(sums[::3], map(int, counts), sums[2::3])
             its = [(kind, count, SUMS[kind](of)) for kind, count, of in its]
             self.uses.append(Use(word, variable, local, location, its))
         elif kind == b"event":

@@ -31,24 +31,18 @@ RANKS = {"published": 0, "freed": 0, "plain": 1, "uncounted": 3, "read-lock": 1,
          "apart": 2, "no-lock": 3, "mixed": 3, "ordered": 5}
 
 
-class Counts(dict):
-    """Numbers by what they are of; 0 of what isn't there. `collections.Counter` takes ten times as long."""
-
-    def __missing__(self, key):
-        return 0
-
-
 class Site:
     """A line that uses the variables, with what is counted there."""
 
     def __init__(self, location):
         self.location = location
-        self.accesses = Counts()  # by word
-        self.threads = Counts()
+        self.accesses = collections.defaultdict(int)  # by word
+        self.threads = collections.defaultdict(int)
         self.writers = set()  # threads
-        self.locks = Counts()  # how many accesses hold each lock, for writing if it is a reader-writer lock
-        self.reading = Counts()  # how many hold it for reading
-        self.wrong = Counts()  # how many of these write
+        # how many accesses hold each lock, for writing if it is a reader-writer lock
+        self.locks = collections.defaultdict(int)
+        self.reading = collections.defaultdict(int)  # how many hold it for reading
+        self.wrong = collections.defaultdict(int)  # how many of these write
         self.bare = 0  # accesses that hold no lock
         self.unknown = 0  # accesses whose locks aren't counted
         self.variables = set()
@@ -64,9 +58,16 @@ class Site:
     def writes(self):
         return self.total() > self.accesses[b"r"]
 
+    @functools.cached_property
+    def guards(self):
+        """How many accesses hold each lock as they have to: a read under a read lock does."""
+        found = dict(self.locks)
+        for lock, count in self.reading.items():
+            found[lock] = found.get(lock, 0) + count - self.wrong[lock]
+        return found
+
     def guarded(self, lock):
-        """How many accesses hold the lock as they have to: a read under a read lock does."""
-        return self.locks[lock] + self.reading[lock] - self.wrong[lock]
+        return self.guards.get(lock, 0)
 
     def lacks(self, lock):
         """Whether some access doesn't hold the lock as it has to."""
@@ -74,7 +75,7 @@ class Site:
 
     def held(self):
         total = self.total()
-        return sorted(lock for lock in {*self.locks, *self.reading} if self.guarded(lock) == total)
+        return sorted(lock for lock, count in self.guards.items() if count == total)
 
     def add(self, word, sums, locals):
         """Takes accesses, as `uses.Use` has them; `locals` names locks on stacks."""
@@ -94,19 +95,24 @@ class Site:
             elif kind == b"many":
                 self.unknown += count
 
-    def take(self, other, name):
-        """Takes what another one has; `name` gives its locks their names here."""
+    def take(self, other, names):
+        """Takes what another one has; `names` has the locks that have another name here."""
         self.writers |= other.writers
         self.bare += other.bare
         self.unknown += other.unknown
-        for what in ("accesses", "threads"):
-            mine = getattr(self, what)
-            for key, count in getattr(other, what).items():
-                mine[key] += count
-        for what in ("locks", "reading", "wrong"):
-            mine = getattr(self, what)
-            for lock, count in getattr(other, what).items():
-                mine[name(lock)] += count
+        add_counts(self.accesses, other.accesses)
+        add_counts(self.threads, other.threads)
+        add_counts(self.locks, other.locks, names)
+        add_counts(self.reading, other.reading, names)
+        add_counts(self.wrong, other.wrong, names)
+
+
+def add_counts(mine, others, names={}):
+    if mine or names:
+        for key, count in others.items():
+            mine[names.get(key, key)] += count
+    else:
+        mine.update(others)
 
 
 class Fact(collections.namedtuple("Fact", "form said tag sentences remedy lock handed",
@@ -204,21 +210,20 @@ class Locks:
 
     def __init__(self, uses, private):
         """`private` are locks on stacks that one thread alone uses: none of these is told."""
-        held, self.own, self.private = collections.Counter(), {}, private
+        held, self.own, self.private = collections.defaultdict(int), {}, private
         for variable, sites in uses.variables.items():
             for site in sites.values():
                 for locks in (site.locks, site.reading):
                     for lock, count in locks.items():
                         held[variable, lock] += count
         self.held = list(held)
-        for variable, lock in sorted(held, key=lambda it: (-held[it], it)):
+        are_several = len(uses.variables) > 1
+        for variable, lock in sorted(held, key=lambda it: (-held[it], it)) if are_several else ():
             self.own.setdefault(alike(lock), {}).setdefault(variable, lock)
-        self.several = {name for name, own in self.own.items() if len(set(own.values())) > 1}
-
-    def name(self, variable, lock):
-        """The lock as it is named of the variable."""
-        name = alike(lock)
-        return Own(name) if name in self.several and self.own[name].get(variable) == lock else lock
+        self.named = collections.defaultdict(dict)  # by variable: its own locks, with their names
+        for name, own in self.own.items():
+            for variable, lock in own.items() if len(set(own.values())) > 1 else ():
+                self.named[variable][lock] = Own(name)
 
     def of(self, name):
         """By variable: the lock of this name."""
@@ -232,11 +237,10 @@ def sites_of(group, uses, private):
     and their locks."""
     sites, racing, locks = {}, group.locations(), Locks(uses, private)
     for variable, its in (*uses.variables.items(), (b"", uses.frees)):
-        name = functools.partial(locks.name, variable)
         for location, site in its.items():
             if location not in sites:
                 sites[location] = Site(location)
-            sites[location].take(site, name)
+            sites[location].take(site, locks.named[variable])
             sites[location].variables.add(variable)
     for pair in group.pairs:
         one, other = pair.locations
@@ -369,17 +373,14 @@ def uncounted(sites, whole):
 def by_weight(sites, locks):
     """The locks that are held at some lines and may be told, those that more lines hold at each access first,
     then those that more accesses hold; and of those that lines hold at each access how many do."""
-    holding, guarded = Counts(), Counts()
+    guarded, holding = collections.defaultdict(int), collections.Counter()
     for site in sites:
-        total = site.total()
-        for lock in {*site.locks, *site.reading} - locks.private:
-            its = site.guarded(lock)
-            guarded[lock] += its
-            if its == total:
-                holding[lock] += 1
+        for lock, count in site.guards.items():
+            guarded[lock] += count
+        holding.update(site.held())
     def weight(lock):
         return -holding[lock], -guarded[lock], not isinstance(lock, Own), lock
-    return sorted(guarded, key=weight), holding
+    return sorted(guarded.keys() - locks.private, key=weight), holding.keys() - locks.private
 
 
 def lock_fact(sites, racing, locks, whole):
@@ -497,7 +498,7 @@ def not_always(sites):
 def holds_another(site, lock):
     """Whether the accesses without a lock hold others that differ by numbers alone, as each object's own."""
     kind = DIGITS.sub(b"", lock)
-    alike = [one for one in {*site.locks, *site.reading} if DIGITS.sub(b"", one) == kind]
+    alike = [one for one in site.guards if DIGITS.sub(b"", one) == kind]
     return len(alike) > 1 and sum(map(site.guarded, alike)) >= site.total()
 
 

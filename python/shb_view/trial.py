@@ -82,7 +82,7 @@ def family_of(pairs, begins):
 def uses_once(sites, thread, may_write=True):
     """Whether a thread uses each variable once at most. `sites` are those of each variable."""
     writes = not may_write and any(thread in site.writers for its in sites for site in its)
-    return not writes and all(sum(site.threads[thread] for site in its) <= 1 for its in sites)
+    return not writes and all(sum(site.threads.get(thread, 0) for site in its) <= 1 for its in sites)
 
 
 def last_join(others, creator, ends, events):
