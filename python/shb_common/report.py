@@ -5,6 +5,7 @@ ends with `end`.
 """
 
 import collections
+import io
 import re
 
 from shb_common.limits import LINE_ROOM, MOST_LINE
@@ -17,6 +18,7 @@ RACES = re.compile(rb"races %b\n" % NUMBER)
 PLACES = re.compile(rb"places %b\n" % NUMBER)
 PLACE = re.compile(rb"place %b: %b\n" % (NUMBER, NUMBER))
 AT, AND = (re.compile(rb"%b ([^\n]{0,%d})\n" % (word, MOST_LINE)) for word in (b"at", b"and"))
+WHOLE_PLACE = re.compile(PLACE.pattern + AT.pattern + AND.pattern)
 RACE = re.compile(rb"race %b: %b %b\n" % (NUMBER, NUMBER, NUMBER))
 FIRST, SECOND = (re.compile(word + rb" (([^\n|]+)\|([rw])\(([^\n|]+)\)(?:\|([^\n]*))?)\n")
                  for word in (rb"first", rb"second"))
@@ -49,9 +51,9 @@ def race_of(events, accesses):
 class Lines:
     """The lines of a report, one after the other, from where the file stands."""
 
-    def __init__(self, file):
+    def __init__(self, file, number=0):
         self.file = file
-        self.number = 0             # of the lines taken
+        self.number = number        # of the lines taken
         # where the next line begins, and where it ends, counted from the report's first byte
         self.start = self.bytes = 0
         self.line = b""
@@ -82,6 +84,21 @@ class Lines:
             raise BadReport(f"line {self.number} of the report has the number {found[0]}; it should be "
                             f"`{form}`")
         return found[1:]
+
+    def place(self, number):
+        """How many races the place with this number has, and its two locations. These lines may be very many,
+        so the three are read at once; if one is wrong, another reader says which."""
+        text = self.line + self.file.readline(LINE_ROOM) + self.file.readline(LINE_ROOM)
+        found = WHOLE_PLACE.fullmatch(text)
+        if found is None or int(found[1]) != number:
+            lines = Lines(io.BytesIO(text), self.number)
+            lines.numbered(PLACE, f"place {number}: C", number)
+            lines.next(AT, "at LOCATION")
+            lines.next(AND, "and LOCATION")
+        self.number += 3
+        self.bytes += len(text) - len(self.line)
+        self.advance()
+        return int(found[2]), found[3], found[4]
 
     def accesses(self, what, first, second, events):
         """The lines of two accesses that conflict, each with its fields. They are of these events of so many;
@@ -152,22 +169,25 @@ class Report:
         [count] = self.lines.numbers(PLACES, "places P")
         found, locations = {}, {}
         for number in range(1, count + 1):
-            [races] = self.lines.numbered(PLACE, f"place {number}: C", number)
-            [first] = self.lines.next(AT, "at LOCATION")
-            [second] = self.lines.next(AND, "and LOCATION")
+            races, first, second = self.lines.place(number)
             found[locations.setdefault(first, first), locations.setdefault(second, second)] = races
         return found
 
     def races(self):
         """The races, one after the other, each with its two accesses; with the last the rest is read."""
-        places = {}
+        places, left, are_same = iter(self.places.items()), {}, True
         for number in range(1, self.count + 1):
             race, accesses = self.read_race(number)
             place = accesses[0].location, accesses[1].location
-            places[place] = places.get(place, 0) + 1
+            if place not in left:   # the first race of the next one
+                following, left[place] = next(places, (None, 0))
+                are_same = are_same and following == place
+            left[place] -= 1
+            if not left[place]:
+                del left[place]
             yield race, accesses
         self.lines.end()
-        if self.places != places or any(one != other for one, other in zip(self.places, places)):
+        if left or not are_same or next(places, None):
             raise BadReport("the places that the report begins with aren't those of its races")
 
     def read_race(self, number):
