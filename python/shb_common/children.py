@@ -1,10 +1,10 @@
-"""Processes that end with the one that started them."""
+"""Processes that end with the one that started them, and those whose parent is gone."""
 
 import ctypes
 import os
 import signal
 
-SET_PARENT_DEATH_SIGNAL = 1     # of prctl
+SET_PARENT_DEATH_SIGNAL, BECOME_PARENT_OF_ORPHANS = 1, 36   # of prctl
 LIBRARY = ctypes.CDLL(None)     # loaded before a fork, since after it that may wait for ever
 
 
@@ -14,6 +14,11 @@ def end_with(parent):
     LIBRARY.prctl(SET_PARENT_DEATH_SIGNAL, signal.SIGKILL, 0, 0, 0)
     if os.getppid() != parent:
         os._exit(1)
+
+
+def adopt_orphans():
+    """Makes processes children of this one if their parent, further down, is gone."""
+    LIBRARY.prctl(BECOME_PARENT_OF_ORPHANS, 1, 0, 0, 0)
 
 
 def apart():

@@ -234,7 +234,8 @@ class Known:
 
     def has(self, sides, variable):
         """Whether a variable is known at a place with these sides; None stands for those without a name."""
-        found = [line for line in self.lines_at(sides) if self.is_of(self.lines[line], variable)]
+        lines = self.lines_at(sides) if self.lines else ()
+        found = [line for line in lines if self.is_of(self.lines[line], variable)]
         self.used.update(found)
         return bool(found)
 
@@ -251,8 +252,6 @@ class Known:
 
     def lines_at(self, sides):
         """The numbers of the lines whose first two fields name these sides."""
-        if not self.lines:
-            return set()
         one, other = (side.keys() for side in sides)
         found = {line for both in itertools.product(one, other)
                  for line in self.exact.get(tuple(sorted(both)), ())}

@@ -1,6 +1,7 @@
 """Places as a log in SARIF 2.1.0 of OASIS, one result a place."""
 
 import collections
+import functools
 import os
 import posixpath
 import re
@@ -54,8 +55,10 @@ class Alert(collections.namedtuple("Alert", "row facts seen example accesses pro
     race there with their call stacks; `properties` are further facts; `blamed` is the name of the location
     that the facts name first, and the path of its file, or None."""
 
+    @functools.cached_property
     def variables(self):
-        return [name for name, _ in self.row.variables]
+        """The variables of the place, in names that last from run to run."""
+        return known.lasting_names(name for name, _ in self.row.variables)
 
 
 class Here:
@@ -115,11 +118,6 @@ def named(place):
     return printable(place.text) or "no location"
 
 
-def variables_of(alert):
-    """The variables of a place, in a name that lasts from run to run."""
-    return known.lasting_names(alert.variables())
-
-
 def fingerprint(parts, between=b"\t", size=16):
     return blake2b(between.join(parts), digest_size=size).hexdigest()
 
@@ -129,7 +127,7 @@ def line_fingerprint(first, second, alert):
     if first.code is None:
         return None
     parts = [first.path, first.code, *((second.text,) if second.code is None else (second.path, second.code)),
-             *variables_of(alert)]
+             *alert.variables]
     return fingerprint(parts, b"\n", 8)
 
 
@@ -156,7 +154,7 @@ def thread_flow(access, sources):
 def message_of(alert, blamed, others):
     links = [f"[{plain(named(place))}]({number})" for number, place in enumerate(others, 1)]
     sides = links if len(links) > 1 else [plain(named(blamed)), *links]
-    variables = list(map(printable, variables_of(alert)))
+    variables = list(map(printable, alert.variables))
     names = [f"`{name}`" for name in variables[:MOST_NAMED]]
     more = len(variables) - len(names)
     on = " and ".join([", ".join(names), *([f"{more} more"] if more > 0 else [])]) if names else "a variable"
@@ -169,7 +167,7 @@ def result_of(alert, sources, seen):
     both = [place_of(name, sources, location.path) for name, location in zip(alert.row.names, alert.row.key)]
     both.sort(key=lambda place: (place.kind, place.text))
     # it changes only with these
-    prints = {"places/v2": fingerprint([*sorted(alert.row.names), *variables_of(alert)])}
+    prints = {"places/v2": fingerprint([*sorted(alert.row.names), *alert.variables])}
     by_lines = line_fingerprint(*both, alert)
     if by_lines:
         seen[by_lines] += 1
@@ -186,7 +184,7 @@ def result_of(alert, sources, seen):
                              for number, place in enumerate(others, 1)],
         "partialFingerprints": prints,
         "suppressions": SUPPRESSIONS if alert.row.is_known else [],
-        "properties": {**alert.properties, "variables": [printable(name) for name in alert.variables()]},
+        "properties": {**alert.properties, "variables": [printable(name) for name, _ in alert.row.variables]},
         **code_flows(alert, sources),
     }
 

@@ -12,10 +12,11 @@ import stat
 import tempfile
 import time
 
+from shb_common.children import adopt_orphans
 from shb_common.standard import tell
 from shb_common.stops import STOPS
 from shb_common.words import Refused
-from shb_record.running import WATCHED, Run, adopt_orphans, children
+from shb_record.running import WATCHED, Run, children
 
 
 def jobs_of(options):

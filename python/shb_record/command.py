@@ -11,6 +11,7 @@ import shutil
 import signal
 
 from shb_common import known
+from shb_common.children import adopt_orphans
 from shb_common.commands import Parser, number
 from shb_common.limits import MOST_EVENTS
 from shb_common.standard import open_standard_files, words_of
@@ -22,7 +23,7 @@ from shb_record.looking import Look
 from shb_record.parts import LIBRARY, check_parts, say
 from shb_record.places import count
 from shb_record.results import Results
-from shb_record.running import REPLAYED, CannotRun, adopt_orphans
+from shb_record.running import REPLAYED, CannotRun
 from shb_record.tables import tables_of
 
 MOST_PASSED, WAIT = 8, 10  # known races that are named; seconds

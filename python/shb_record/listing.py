@@ -1,6 +1,5 @@
 """`shb places --list` on all that a process recorded: which places there are, and of which variables."""
 
-import contextlib
 import os
 import shutil
 import tempfile
@@ -55,8 +54,3 @@ class Listing:
         self.text.seek(0)
         with open(path, "wb") as out:
             shutil.copyfileobj(self.text, out)
-
-
-def listing(room):
-    """The same, closed at the end of a block."""
-    return contextlib.closing(Listing(room))

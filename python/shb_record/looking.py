@@ -1,5 +1,6 @@
 """Converts, analyses and shows the processes of all runs."""
 
+import contextlib
 import shlex
 import sys
 
@@ -12,7 +13,7 @@ from shb_record.modules import Modules
 from shb_record.parts import ANALYSER, now, say
 from shb_record.places import Places
 from shb_record.running import PRELOADED, cause
-from shb_record.listing import Contradiction, listing
+from shb_record.listing import Contradiction, Listing
 
 
 KINDS = {b"r": "read", b"w": "written"}
@@ -144,7 +145,7 @@ class Look:
 
     def analyse(self, looked):
         check_room(looked.process, self.options.window)
-        with listing(self.results.work) as listed:
+        with contextlib.closing(Listing(self.results.work)) as listed:
             looked.conversion.places(listed, self.choose)
             looked.places, looked.events = looked.conversion.found, looked.conversion.counts.events
         if looked.events:

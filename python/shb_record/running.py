@@ -2,7 +2,6 @@
 
 import collections
 import contextlib
-import ctypes
 import mmap
 import os
 import pathlib
@@ -19,7 +18,6 @@ from shb_record.parts import LIBRARY, say
 
 SEGMENT = 1 << 20  # records, with --live
 WATCHED = STOPS | {signal.SIGCHLD}
-BECOME_PARENT_OF_ORPHANS = 36  # of prctl
 POLL = 0.2  # seconds: so often it is looked whether a segment is closed
 PRELOADED = "libtsan.so.2"      # of our folder, as gcc's own is called
 REPLAYED = "replayed.turns"  # in the folder of work: the list that is followed
@@ -52,11 +50,6 @@ def started(words, variables, blocked):
                                 preexec_fn=lambda: signal.pthread_sigmask(signal.SIG_SETMASK, blocked))
     except OSError as fault:
         raise CannotRun(f"{words[0]}: can't be run: {fault.strerror}") from None
-
-
-def adopt_orphans():
-    """Makes processes children of this one if their parent, further down, is gone."""
-    ctypes.CDLL(None).prctl(BECOME_PARENT_OF_ORPHANS, 1, 0, 0, 0)
 
 
 # What became of a run: the program's status in a shell, the last signal to end it, and when the first came.

@@ -10,7 +10,7 @@ import subprocess
 
 from shb_common.analyser import Place
 from shb_common.children import apart
-from shb_record.listing import listing
+from shb_record.listing import Listing
 
 
 class Second:
@@ -30,7 +30,8 @@ class Second:
     def places(self, conversion, room):
         """The places of the trace without these accesses, with the events' numbers in the whole trace."""
         pipes = {"stdout": subprocess.PIPE, "stderr": subprocess.DEVNULL}
-        with listing(room) as listed, subprocess.Popen(conversion.list_words, **pipes, **apart()) as ran:
+        with contextlib.closing(Listing(room)) as listed, \
+                subprocess.Popen(conversion.list_words, **pipes, **apart()) as ran:
             try:
                 with contextlib.suppress(BrokenPipeError):  # if `shb` ended early, its status says why
                     with open(listed.descriptor, "wb", closefd=False) as out:

@@ -54,12 +54,12 @@ class Analyser:
         line, hint = found
         return f"\n  {short(line, MOST_SHOWN)}" + (f"\n  hint: {hint}" if hint else "")
 
-    def head(self, take=None):
+    def head(self, take):
         """The report of `races --list`. The accesses of its races are given to `take`, if they are few."""
         with self.started(HEAD, self.trace, subprocess.PIPE) as run:
             try:
                 report = Report(run.out)
-                if take and report.count <= MOST_LISTED:
+                if report.count <= MOST_LISTED:
                     for race, accesses in report.races():
                         take(race, *accesses)
                 return report

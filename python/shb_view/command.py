@@ -9,12 +9,12 @@ from shb_common.parts import ANALYSER
 from shb_common.progress import Progress
 from shb_common.report import BadReport
 from shb_common.result import in_bytes
+from shb_common.stacks import BadStacks
 from shb_common.standard import faults_of, open_standard_files, tell, words_of, write_texts
 from shb_common.words import Refused
 from shb_view import result, text
 from shb_view.names import readable
 from shb_view.page import page_parts
-from shb_view.stacks import Damaged
 from shb_view.view import Asked, make_view, view_of_run
 
 ABOUT = """\
@@ -77,7 +77,7 @@ def show_run(run, asked, page, out, progress):
     view = view_of_run(run, asked, progress)
     with faults_of(page):
         put(page, page_of(view))
-    write_text(view, out, progress, has_notes=False)
+    write_text(view, out, progress)
     return view
 
 
@@ -85,10 +85,10 @@ def page_of(view):
     return "".join(page_parts(view)).encode()
 
 
-def write_text(view, out, progress, is_whole=False, has_notes=True):
+def write_text(view, out, progress, is_whole=False):
     progress.clear()
     is_coloured = out.isatty() and not os.environ.get("NO_COLOR") and os.environ.get("TERM") != "dumb"
-    lines = text.text_lines(view, text.Colours(is_coloured), is_whole, has_notes)
+    lines = text.text_lines(view, text.Colours(is_coloured), is_whole)
     write_texts((f"{line}\n" for line in lines), out)
 
 
@@ -109,7 +109,7 @@ def explain(make, *words):
         return 0, make(*words, progress)
     except BrokenPipeError:
         return 2, None
-    except Damaged as fault:
+    except BadStacks as fault:
         status, said = 4, str(fault)
     except (Refused, BadReport, OSError) as fault:
         status, said = 2, words_of(fault)

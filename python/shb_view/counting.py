@@ -214,10 +214,5 @@ class Counting:
             elif freed.setdefault((group, location, name_parts(variable)["block"]), variable) == variable:
                 self.used[group].at(b"", location).add(word, sums, kinds.locks)
 
-    def private_locks(self):
-        """The locks on stacks that one thread alone uses."""
-        return {lock for lock, threads in self.lockers.items()
-                if lock.startswith(b"stack.") and len(threads) == 1}
-
     def uses_of(self, group):
         return sites_in(self.counts[group]) if self.uses is None else self.used[group]

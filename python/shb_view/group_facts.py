@@ -26,8 +26,10 @@ class Facts:
     def __init__(self, counting, whole):
         self.kinds, self.whole = counting.access_kinds, whole
         self.known, self.are_apart = {}, counting.are_apart  # `known` has by variable what holds of it alone
-        self.again, self.private = counting.again, counting.private_locks()
-        self.refuted = set()  # variables that race whatever hands them on
+        self.again = counting.again
+        self.private = {lock for lock, threads in counting.lockers.items()  # on the stack of a thread that
+                        if lock.startswith(b"stack.") and len(threads) == 1}  # alone uses it
+        self.refuted = set()  # variables of which a trial says that they race whatever hands them on
         stacks = self.kinds.stacks
         self.pairs = handed(stacks.uses, len(stacks.free_starts) > 0, stacks.lasting_locals)
         self.stores = stores_of(stacks.uses if self.again else ())
@@ -75,11 +77,6 @@ class Facts:
         """The system's function that an event is in, in a list, or none."""
         return [last_name(frame.function) for frame in self.kinds.stacks.of_event(event)[:1]
                 if frame.in_system]
-
-    def refute(self, names):
-        """Takes variables of which a trial says that they race whatever hands them on."""
-        self.refuted = names
-        self.known.clear()
 
     def come_again(self, names, races, pairs):
         """Whether an access of a race is repeated after a store that the other thread may have

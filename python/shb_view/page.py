@@ -2,7 +2,7 @@
 group's text for an issue. What page.js draws a group from stands in one element, as JSON: names in there
 never become markup."""
 
-import base64
+import binascii
 import itertools
 import json
 import pathlib
@@ -87,7 +87,8 @@ def page_parts(view):
 
 def policy(style, script):
     """What the browser may run and load: this style and this script, whatever a name says."""
-    style, script = (base64.b64encode(sha256(text.encode()).digest()).decode() for text in (style, script))
+    style, script = (binascii.b2a_base64(sha256(text.encode()).digest(), newline=False).decode()
+                     for text in (style, script))
     allowed = (f"default-src 'none'; base-uri 'none'; form-action 'none'; style-src 'sha256-{style}'; "
                f"script-src 'sha256-{script}'")
     return element("meta", http_equiv="Content-Security-Policy", content=allowed)

@@ -13,10 +13,6 @@ MAKES_FIBER, HANDLER = b"__tsan_create_fiber", b"signal handler"
 WITHOUT_LINE = {MAKES_FIBER: " (which made the fiber)", HANDLER: ""}
 
 
-class Damaged(Exception):
-    """The words say what is wrong with a file beside the trace: with its call stacks or its places."""
-
-
 def perhaps_ordered(sites, callers, stacks, calls):
     """The modules without hooks that both sides of the races call, are called by, or were started by."""
     found = []

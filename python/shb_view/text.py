@@ -25,7 +25,7 @@ class Colours:
 flat = flat_in(NAME)
 
 
-def text_lines(view, colours, is_whole, has_notes=True):
+def text_lines(view, colours, is_whole):
     """The lines of the text. `is_whole` adds the report for an issue and the events before the accesses."""
     if view.verdict.is_good is False:
         yield colours.red(bad_words(view))
@@ -49,7 +49,7 @@ def text_lines(view, colours, is_whole, has_notes=True):
     if view.groups > len(view.sections):
         yield ""
         yield f"and {counted(view.groups - len(view.sections), 'more group')}"
-    notes = [*notes_of(view), *view.about] if has_notes else []
+    notes = [] if view.of_run else [*notes_of(view)]
     yield from ["", *notes] if notes and view.sections else notes
 
 

@@ -161,7 +161,8 @@ def after_trials(found, facts, trials, left, again):
         good[key] = change.names - its
         refuted |= its if isinstance(key, frozenset) else set()
     if refuted:
-        facts.refute(refuted)
+        facts.refuted = refuted
+        facts.known.clear()
         found = again()
     return [tried(one, facts.whole, trials, good, len(left) < len(trials)) for one in found]
 

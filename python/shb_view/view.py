@@ -19,7 +19,7 @@ from shb_view.group_facts import Facts, merged_groups
 from shb_view.groups import Gathered, place_of
 from shb_view.names import by_numbers, readable
 from shb_view.source import Source
-from shb_view.stacks import Damaged, perhaps_ordered
+from shb_view.stacks import perhaps_ordered
 from shb_view.trial import after_trials, still_racing, trials_of
 from shb_view.trace import CHANGED, Trace, warnings
 from shb_view.windows import make_windows
@@ -89,8 +89,10 @@ def make_view(path, stacks, asked, progress):
     with contextlib.ExitStack() as room:
         file, gathered = room.enter_context(open_regular(path)), Gathered()
         made = analysed(asked.shb, file, gathered, progress, room)
-        with damage_of(stacks):
+        try:
             kinds = Kinds(gathered, Stacks(stacks, made.events))
+        except BadStacks as fault:
+            raise BadStacks(f"{readable(stacks)} {fault}") from None
         return view_of(file, made, kinds, asked, progress)
 
 
@@ -197,15 +199,6 @@ def judge_of(made, path):
     path = os.path.abspath(path) if os.path.relpath(path).startswith("..") else os.path.relpath(path)
     path = shlex.quote(readable(path))
     return f"shb {' '.join(made.given.words)} {path} | shb check {path}"
-
-
-@contextlib.contextmanager
-def damage_of(path):
-    """Faults of a file beside the trace are said with its name."""
-    try:
-        yield
-    except BadStacks as fault:
-        raise Damaged(f"{readable(path)} {fault}") from None
 
 
 def open_regular(path):

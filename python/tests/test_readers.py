@@ -7,6 +7,7 @@ import io
 import os
 import pathlib
 import random
+import re
 import struct
 import tempfile
 
@@ -212,6 +213,34 @@ class Readers(side_by_side.Case):
             with self.assertRaises(BadReport) as refused:
                 list(Report(io.BytesIO(text.replace(before, after))).races())
             self.assertEqual(str(refused.exception), wanted)
+
+    def test_lines_of_places(self):
+        for before, after, wanted in (
+            (b"place 1: 1", b"place 2: 1",
+             "line 5 of the report has the number 2; it should be `place 1: C`"),
+            (b"place 1: 1", b"place 1:", "line 5 of the report is `place 1:`; it should be `place 1: C`"),
+            (b"at a.c:1", b"a.c:1", "line 6 of the report is `a.c:1`; it should be `at LOCATION`"),
+            (b"and b.c:2", b"and " + b"b" * 5_000, "line 7 of the report is too long: `and " + "b" * 54
+             + "..`; it should be `and LOCATION`"),
+            (REPORT[REPORT.index(b"and"):], b"and b",
+             "line 7 of the report is cut off: `and b`; it should be `and LOCATION`")):
+            with self.subTest(wanted), self.assertRaisesRegex(BadReport, f"^{re.escape(wanted)}$"):
+                Report(io.BytesIO(REPORT.replace(before, after)))
+
+    def test_places_are_those_of_the_races(self):
+        """In the order of their first races, each with as many as it has."""
+        race = b"race %d: 1 2\nfirst T1|w(x)|%b\nsecond T2|w(x)|b.c:2\n"
+        for places, are_same in ((b"121", True), (b"112", True), (b"122", False), (b"211", False),
+                                 (b"111", False), (b"131", False)):
+            races = b"".join(race % (number, b"a.c:%c" % at) for number, at in enumerate(places, 1))
+            text = (b"shb-report 2\nevents 2 threads 2 locks 0 variables 1\nraces 3\nplaces 2\n"
+                    b"place 1: 2\nat a.c:1\nand b.c:2\nplace 2: 1\nat a.c:2\nand b.c:2\n" + races + b"end\n")
+            with self.subTest(places):
+                found = Report(io.BytesIO(text)).races()
+                if are_same:
+                    self.assertEqual(len(list(found)), 3)
+                else:
+                    self.assertRaisesRegex(BadReport, "aren't those of its races", list, found)
 
     def test_words_name_the_line(self):
         for number, line in enumerate(LINES.splitlines(True), 2):
