@@ -66,6 +66,7 @@ class Here:
 
     def __init__(self, folder):
         folders = [folder, *folder.parents]
+        read_lines.cache_clear()    # files may have changed since
         self.top = os.fsencode(next((one for one in folders if (one / ".git").exists()), folder)) + b"/"
 
     def find(self, path, compiled=b""):

@@ -39,8 +39,7 @@ class Site:
         self.accesses = collections.defaultdict(int)  # by word
         self.threads = collections.defaultdict(int)
         self.writers = set()  # threads
-        # how many accesses hold each lock, for writing if it is a reader-writer lock
-        self.locks = collections.defaultdict(int)
+        self.locks = collections.defaultdict(int)  # how many accesses hold each lock, but not for reading
         self.reading = collections.defaultdict(int)  # how many hold it for reading
         self.wrong = collections.defaultdict(int)  # how many of these write
         self.bare = 0  # accesses that hold no lock

@@ -35,6 +35,7 @@ class Source:
     def __init__(self, folders, written, recorded):
         """`written` is when the trace was, `recorded` has files by their names in locations."""
         self.folders, self.written, self.recorded = folders, written, recorded
+        sources.read_lines.cache_clear()    # files may have changed since an earlier view
         for folder in folders:
             if not os.path.isdir(folder):
                 raise Refused(f"--source: {readable(folder)} isn't a folder")

@@ -49,7 +49,7 @@ def text_lines(view, colours, is_whole):
     if view.groups > len(view.sections):
         yield ""
         yield f"and {counted(view.groups - len(view.sections), 'more group')}"
-    notes = [] if view.of_run else [*notes_of(view)]
+    notes = [] if view.of_run else [*notes_of(view), *view.about]
     yield from ["", *notes] if notes and view.sections else notes
 
 
