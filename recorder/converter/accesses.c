@@ -26,8 +26,8 @@ int is_passed_over(u64 i) { return !known[i].accessed && !known[i].means_more; }
 /* ---- 1: users of blocks; a range over several is shared, to be cut at their bounds ---- */
 static void use_block(block *b, u32 t, int with_others) {
     if (!b) return;
-    if (!b->user) b->user = t + 1;
-    if (b->user != t + 1 || with_others) b->many_users = 1;
+    add_thread(&b->users, t);
+    if (with_others) b->users.many = 1;
 }
 
 static int means_more(u64 i) {
@@ -59,7 +59,7 @@ void find_users(u64 i) {
 void find_cuts(u64 i) {
     if (!known[i].accessed) return;
     block *b = block_of(known[i].accessed - 1);
-    if (b && !b->many_users) known[i].accessed = 0;
+    if (b && !b->users.many) known[i].accessed = 0;
     else {
         note_caller(caller_of(i));
         cut(address_of(i));
@@ -77,30 +77,22 @@ static use use_of(u64 i) {
                  operation == OP_READ};
 }
 
-static void note_atomic_writer(u32 number, u32 thread) {
-    if (map_adds(&atomic_writers, number, thread)) add_to_list(&piece_of(number)->atomic_writers, thread);
-    use_of_piece(number)->written_atomically = 1;
-}
-
-static void share_piece(use u, u32 number) {
+static void share_piece(u64 i, use u, u32 number) {
     piece_use *p = use_of_piece(number);
-    u32 user = u.thread + 1;
-    if (!p->user) p->user = user;
-    if (p->user != user) p->many_users = 1;
-    if (u.writes) p->written = 1;
-    if (u.writes_atomically) note_atomic_writer(number, u.thread);
-    if (!u.reads) return;
-    if (!p->reader) p->reader = user;
-    if (p->reader != user) p->many_readers = 1;
+    add_thread(&p->users, u.thread);
+    if (u.reads) add_thread(&p->readers, u.thread);
+    if (!u.writes && !u.writes_atomically) return;
+    add_thread(&p->writers, u.thread);
+    piece_of(number)->last_write = i;
+    p->written |= u.writes;
+    p->written_atomically |= u.writes_atomically;
+    if (u.writes_atomically && map_adds(&atomic_writers, number, u.thread))
+        add_to_list(&piece_of(number)->atomic_writers, u.thread);
 }
 
 /* Neighbours mostly have numbers that follow each other: so an access has runs of these. */
 typedef struct { u32 first, count : 31, is_last : 1; } run;
 static VECTOR(run) runs;
-
-static void share_run(use u, const run *r) {
-    for (u32 k = 0; k < r->count; k++) share_piece(u, r->first + k);
-}
 
 /* how many from the first on follow each other */
 static u32 following(const u32 *numbers, u32 count) {
@@ -131,7 +123,7 @@ void share_pieces(u64 i) {
     u32 count, *numbers = pieces_at(&at, end, &count);
     if (count == 1 && at == end) {
         known[i].accessed = *numbers;
-        share_piece(u, *numbers);
+        share_piece(i, u, *numbers);
         return;
     }
     known[i].accessed = MOST_PIECES + 1 + from;
@@ -140,7 +132,8 @@ void share_pieces(u64 i) {
         numbers = pieces_at(&at, end, &count);
         add_to_runs(from, numbers, count);
     }
-    for (u64 k = from; k < runs.count; k++) share_run(u, &runs.at[k]);
+    for (const run *r = &runs.at[from]; r < &runs.at[runs.count]; r++)
+        for (u32 k = 0; k < r->count; k++) share_piece(i, u, r->first + k);
     runs.at[runs.count - 1].is_last = 1;
 }
 
@@ -151,8 +144,10 @@ piece *only_piece(u64 i) {
 /* ---- 4: events ---- */
 /* The same read, by the same thread at the same place under the same locks, with no write of the variable
    since, and nothing since by which the thread could order another: all that it conflicts with, and all that
-   it orders, the first does too. */
-enum { RECENT = 1 << 18 };
+   it orders, the first does too. Behind the variable's last write it conflicts with nothing that comes, so
+   locks and orders don't matter. A place is a location: of two reads in one line the second repeats the
+   first. */
+enum { RECENT = 1 << 20 };
 typedef struct {
     u64 site, epoch, locks;
     u32 piece, writes;
@@ -160,18 +155,26 @@ typedef struct {
     u32 from, end;
 } read;
 static read *recent;
+static u64 traces;                     /* begun so far */
+
+void begin_reads(void) {
+    if (!traces++) recent = mapped(RECENT, sizeof *recent);
+}
 
 /* *kept: the read that is compared with the next ones. */
-static int repeats(use u, u64 own, u32 number, read **kept) {
-    if (!recent) recent = zeroed(RECENT, sizeof *recent);
-    u64 site = own | (u64)u.thread << 48, epoch = threads[u.thread].epoch + 1;
-    read this = {.site = site, .epoch = epoch | (u64)(u.thread >> 16) << 48, .locks = threads[u.thread].locks,
-                 .piece = number, .writes = piece_of(number)->writes};
+static int repeats(u64 i, u64 own, u32 number, read **kept) {
+    u32 t = thread_of(i);
+    const piece *p = piece_of(number);
+    u64 site = site_of(own) | (u64)t << 32 | traces << 52;
+    read this = {.site = site, .piece = number, .writes = p->writes};
+    if (i < p->last_write) {
+        this.epoch = threads[t].epoch + 1;
+        this.locks = threads[t].locks;
+    }
     u64 slot = (mix(site, 0) + number) & (RECENT - 1);       /* neighbours stand side by side */
     read *last = *kept = &recent[slot];
     int same = last->site == this.site && last->piece == number && last->writes == this.writes
-        && last->epoch == this.epoch
-        && last->locks == this.locks && !whole_trace;
+        && last->epoch == this.epoch && last->locks == this.locks && !whole_trace;
     if (!same) *last = this;
     else for (; last->from < last->end; last->from++) note_repeated(last->from);
     return same;
@@ -204,27 +207,27 @@ static u64 piece_event(u64 i, u64 own, u32 number, const char *operation, u32 wr
     return 0;
 }
 
-static int is_shared(const piece_use *p) { return p->many_users && p->written; }
-static int is_read_by_others(const piece_use *p, u32 t) {
-    return p->many_readers || (p->reader && p->reader != t + 1);
-}
+static int is_shared(const piece_use *p) { return whole_trace || (p->users.many && p->written); }
+static int has_others(some_threads s, u32 t) { return s.many || (s.first && s.first != t + 1); }
 
 /* An atomic write is a read of X, so that it conflicts with plain writes, and a write of a variable of X and
    its thread alone, which the plain reads of others read too: so it conflicts with these, and never with an
-   atomic access. */
+   atomic access. A read by the only thread that writes conflicts with nothing, and tells nothing. */
 static void piece_events(u64 i, use u, u32 number, int is_kept) {
     const piece_use *users = use_of_piece(number);
     u32 t = u.thread;
     int shared = is_shared(users);
     if (!shared && !u.writes_atomically && !users->written_atomically) return;
+    int only_reads = !u.writes && !u.writes_atomically;
+    if (only_reads && !has_others(users->writers, t) && !whole_trace) return;
     u64 own = own_place(t, caller_of(i)), event_number = 0;
     read *kept = 0;
-    if (!u.writes && !u.writes_atomically && repeats(u, own, number, &kept)) return;
+    if (only_reads && repeats(i, own, number, &kept)) return;
     piece *p = piece_of(number);
     if (shared) event_number = piece_event(i, own, number, u.writes ? "w" : "r", NOBODY, is_kept);
     if (kept) keep_event(kept, event_number);
     if (u.writes) p->writes++;
-    if (u.writes_atomically && is_read_by_others(users, t)) {
+    if (u.writes_atomically && has_others(users->readers, t)) {
         piece_event(i, own, number, "w", t, is_kept);
         p->writes++;
     }

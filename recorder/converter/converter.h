@@ -97,6 +97,7 @@ void note_caller(u64 caller);
 void find_places(void);                /* of all callers that were noted */
 part place_of(u64 caller);
 part line_end_of(u64 caller);          /* ")|" and its place, with WIDE bytes that may be read */
+u32 site_of(u64 caller);               /* the number of its location */
 void note_hooked(u64 function);        /* in the first pass: it has hooks */
 /* is it in a function of Rust's library without hooks, whose order nobody sees? */
 int is_unseen(u64 caller);
@@ -140,26 +141,32 @@ size_t name_by_use(u64 caller, const u64 use[6], char name[NAME_BYTES], u64 *beg
 
 int is_variable(const char *name, size_t length);            /* is a static variable named so? */
 
+/* Threads: the first, plus one, and whether there are others. */
+typedef struct { u32 first : 28, many : 1; } some_threads;
+static inline void add_thread(some_threads *s, u32 t) {
+    if (!s->first) s->first = t + 1;
+    if (s->first != t + 1) s->many = 1;
+}
+
 /* memory.c: blocks and pieces. */
 typedef struct {
     u64 at, size, caller;
-    u32 thread, user, node;            /* node: of the file of stacks, where it was allocated; or 0 */
-    uint8_t stack, many_users, named, freed;
+    u32 thread, node;                  /* node: of the file of stacks, where it was allocated; or 0 */
+    some_threads users;
+    uint8_t stack, named, freed;
 } block;
 typedef struct {
     u64 at;
     u32 block;                         /* its number, or 0 */
     u32 atomic_writers;                /* a list */
     u32 writes;                        /* events so far that wrote it, in all traces */
+    u64 last_write;                    /* the record */
     /* the number of the one that was met last at its address, or 0 (objects.c) */
     u32 object;
 } piece;
-/* Who uses a piece. It stands apart, for most accesses ask no more, and of several neighbours. */
-typedef struct {
-    /* the first thread that used it, plus one */
-    u32 user : 28, many_users : 1, written : 1, written_atomically : 1;
-    u32 reader : 28, many_readers : 1;                       /* and that read it plainly */
-} piece_use;
+/* Who uses a piece, reads it plainly and writes it, plainly or atomically. It stands apart, for most accesses
+   ask no more, and of several neighbours. */
+typedef struct { some_threads users, readers, writers; uint8_t written, written_atomically; } piece_use;
 enum { MOST_PIECES = (1u << 30) - 1 }; /* in accesses.c numbers of runs stand behind theirs */
 extern u64 range_steps;                /* in this pass: pages and pieces after the first of each range */
 void begin_memory_pass(void);
@@ -264,6 +271,7 @@ void note_record(u64 i);
 extern int has_fences;                 /* known before the third pass */
 void share_fence(u64 i);
 void forget_states(void);              /* of objects, between the passes */
+void begin_reads(void);                /* of each trace */
 void write_holds(u32 t);               /* acquires of what it holds that aren't in the trace */
 typedef void (*held_lock)(const char *operation, u32 t, const hold *h);
 /* those whose acquires are in the trace, the oldest first */

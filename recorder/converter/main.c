@@ -123,6 +123,7 @@ static inline __attribute__((always_inline)) void pass(void (*step)(u64), int is
 static void write_trace(int has_stacks) {
     forget_thread_states();
     forget_states();
+    begin_reads();
     begin_calls(has_stacks);
     begin_events();
     pass(write_events, 0);

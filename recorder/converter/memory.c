@@ -128,7 +128,7 @@ block *meet_block(u64 i) {
     if (++met > blocks.count) {        /* in the first pass */
         const int is_stack = operation_of(i) == OP_START;
         *PUSH(blocks) = (block){address_of(i), size, caller_of(i), .stack = is_stack,
-                                .many_users = whole_trace, .thread = thread_of(i)};
+                                .users.many = whole_trace, .thread = thread_of(i)};
         cut(from);
         cut(end);
     }
@@ -169,7 +169,7 @@ static void make_pieces(u64 from, u64 cuts, u32 *slots) {
         u64 at = from + __builtin_ctzll(cuts);
         if (pieces.count == MOST_PIECES)
             die("the record has more variables than shb-std takes (%d)", MOST_PIECES);
-        *PUSH(piece_uses) = (piece_use){.many_users = whole_trace, .written = whole_trace};
+        *PUSH(piece_uses) = (piece_use){0};
         *PUSH(pieces) = (piece){.at = at, .block = block_number(block_at(at))};
         *slots = pieces.count;
     }

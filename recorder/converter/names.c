@@ -22,8 +22,15 @@ static module modules[MAX_MODULES];
 static int module_count;
 /* What a caller is: its location, whether that is the program's own code, and its frames, the
    innermost first. */
-typedef struct { u64 caller, length; char *text; inlined_frame *frames; uint8_t is_own, is_unseen; } place;
+typedef struct {
+    u64 caller, length;
+    char *text;
+    inlined_frame *frames;
+    u32 site;                          /* the same where the location is */
+    uint8_t is_own, is_unseen;
+} place;
 static INTERNED(place) places;         /* by callers */
+static map sites;                      /* by locations */
 static place nowhere;                  /* of a caller that wasn't noted */
 
 static place *place_at(u32 number) { return number ? &places.at[number - 1] : &nowhere; }
@@ -495,6 +502,7 @@ static void find_place(place *p) {
     p->text = line_end(chosen ? chosen->location : address);
     free(address);
     p->length = strlen(p->text);
+    p->site = map_text(&sites, p->text);
     p->is_own = m && !is_recorder(m) && !(chosen ? chosen->in_system_file : in_system(m->path));
     const inlined_frame *last = outermost(p->frames);
     p->is_unseen = last && last->in_rust_library && !is_hooked(m, p->caller);
@@ -555,6 +563,8 @@ part line_end_of(u64 caller) {
     part place = place_of(caller);
     return (part){place.at - 2, place.length + 2};
 }
+
+u32 site_of(u64 caller) { return found_place(caller)->site; }
 
 int is_unseen(u64 caller) { return has_unseen && found_place(caller)->is_unseen; }
 

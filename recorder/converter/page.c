@@ -11,29 +11,22 @@
    The file of uses has of the whole run how often each variable in a race is used at each location in each
    way, and sums of that by threads, call stacks and locks; and which events of the page's trace those of the
    races are. Lines, with tabs between their fields, behind USES_BEGIN:
-       use WORD VARIABLE LOCAL LOCATION SUM..                   WORD is r, w, a (written atomically) or f
-       (freed). A SUM is three
-                                                                fields; COUNT is how many accesses
-           by COUNT THREAD                                      the thread makes
-           bare COUNT STACK                                     hold no lock, and have this stack: a number of
-           the file of stacks, or 0
-           held COUNT STACK                                     hold locks, and have it; "many" in its place:
-           more than 64, of which no
-                                                                sum tells
-           under COUNT LOCK                                     hold the lock; "reading" in its place: for
-           reading
-       seen VARIABLE WRITTEN READ                               in the run a read at the location READ saw
-       what another thread
-                                                                wrote at the location WRITTEN
+       use WORD VARIABLE LOCAL LOCATION SUM..
+           WORD is r, w, a (written atomically) or f (freed). A SUM is three fields; COUNT is how many
+           accesses
+           by COUNT THREAD          the thread makes
+           bare COUNT STACK         hold no lock, and have this stack: a number of the file of stacks, or 0
+           held COUNT STACK         hold locks, and have it; "many" in its place: over 64, with no sum of each
+           under COUNT LOCK         hold the lock; "reading" in its place: for reading
+       seen VARIABLE WRITTEN READ
+           in the run a read at the location READ saw what another thread wrote at the location WRITTEN
        event NUMBER-IN-PAGE NUMBER-IN-RUN
-       part NUMBER-IN-PAGE                                      between this event and the one before it some
-       may be missing
-       repeated NUMBER-IN-PAGE                this access stands for others of its kind, which are omitted:
-       earlier
-                                              ones in a phase of one owner; of a read also later ones, before
-                                              the
-                                              thread could order another or the variable is written
-       events COUNT-IN-PAGE                                     at the end */
+       part NUMBER-IN-PAGE          between this event and the one before it some may be missing
+       repeated NUMBER-IN-PAGE
+           this access stands for others of its kind, which are omitted: earlier ones in a phase of one
+           owner; of a read also later ones, before the thread could order another or the variable is
+           written, or behind its last write
+       events COUNT-IN-PAGE         at the end */
 #define _GNU_SOURCE
 #include <errno.h>
 #include <stdlib.h>

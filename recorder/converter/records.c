@@ -116,7 +116,6 @@ void forget_thread_states(void) {
         thread_calls *c = &s->calls;
         c->calls.count = c->known = c->owned = c->told = c->in = c->length = c->depth = c->last = 0;
         s->held.count = s->unwritten = s->locks = 0;
-        s->epoch++;                    /* so nothing is a repeat of what is in the trace before */
         s->has_begun = s->is_forked = s->is_joined = 0;
         s->forked_by = s->notes.count = s->is_fenced = s->gave = 0;
     }

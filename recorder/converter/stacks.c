@@ -4,57 +4,38 @@
    A stack is a node of a tree: the innermost call with its stack further out.  The file begins with
    STACKS_BEGIN and the number of events, then has a node's number of 4 bytes for each event (0: not known),
    then lines:
-       frame FUNCTION TAB LOCATION                   numbered from 1; the function or the location may be
-       empty. The function
-                                                     __tsan_create_fiber made the fiber that those further in
-                                                     are of, and
-                                                     "signal handler" interrupted what is further out
-       system-frame FUNCTION TAB LOCATION            the same, numbered on, of code in /usr or /lib
-       stack NODE OUTER FRAME FRAME..                the frames of a node's innermost call, the innermost
-       first (of inlined
-                                                     code there are several), and the node of the stack
-                                                     further out, or 0
-       thread NAME TAB NODE                          where the thread was created
-       block NUMBER NODE                             where the block was allocated
-       free FIRST LAST                               these events are of one call that freed a block
-       local EVENT TAB VARIABLE TAB NAME             from this event on the variable, which is on a stack, is
-       this local of a
-                                                     function that the stack's thread is in, as "x.head of
-                                                     main"; or of none
-                                                     that is known, where the name is empty. With 0 for EVENT:
-                                                     the variable,
-                                                     which is in a block of the heap, is at all events this
-                                                     member of the
-                                                     block's type, as "Account.balance"; with " of
-                                                     FILE:LINE#NUMBER", the
-                                                     block's name, where several blocks of the trace have this
-                                                     type,
-                                                     or a static variable has its name; or the program's part
-                                                     of a static's
-       use EVENT TAB NAME TAB THREAD TAB LOCATION TAB KIND ORDER       a use before this event of an atomic
-       that several threads use,
-                                                     whether or not it is an event: a load, store or update
-                                                     with the order
-                                                     relaxed, acquire, release or both. In the order in which
-                                                     they happened
-                                                     each store and update, and each thread's first load of
-                                                     what another
-                                                     thread stored. A store after a release fence is one with
-                                                     release. Of a
-                                                     fence with acquire the kind is fence, and NAME is empty.
-                                                     Of a page's
-                                                     trace only those within its spans. Behind ORDER " again":
-                                                     it stands for
-                                                     earlier ones of its kind too, which are omitted
-       crash THREAD TAB SIGNAL TAB ADDRESS TAB NODE  how the program ended, where a signal ended it that a
-       thread's own code made; the
-                                                     address, hexadecimal, is what it had no access to, or
-                                                     empty
-       source NAME TAB PATH                          a source file, as locations name it, and where it was
-       when it was compiled
-       line LOCATION TAB SUM                         of the text that a frame's line has now, without the
-       blanks at its ends: 16
-                                                     hexadecimal digits. Not where the file can't be read */
+       frame FUNCTION TAB LOCATION
+           numbered from 1; the function or the location may be empty. The function __tsan_create_fiber made
+           the fiber that those further in are of, and "signal handler" interrupted what is further out
+       system-frame FUNCTION TAB LOCATION
+           the same, numbered on, of code in /usr or /lib
+       stack NODE OUTER FRAME FRAME..
+           the frames of a node's innermost call, the innermost first (of inlined code there are several),
+           and the node of the stack further out, or 0
+       thread NAME TAB NODE                             where the thread was created
+       block NUMBER NODE                                where the block was allocated
+       free FIRST LAST                                  these events are of one call that freed a block
+       local EVENT TAB VARIABLE TAB NAME
+           from this event on the variable, which is on a stack, is this local of a function that the stack's
+           thread is in, as "x.head of main"; or of none that is known, where the name is empty. With 0 for
+           EVENT: the variable, which is in a block of the heap, is at all events this member of the block's
+           type, as "Account.balance"; with " of FILE:LINE#NUMBER", the block's name, where several blocks of
+           the trace have this type, or a static variable has its name; or the program's part of a static's
+       use EVENT TAB NAME TAB THREAD TAB LOCATION TAB KIND ORDER
+           a use before this event of an atomic that several threads use, whether or not it is an event: a
+           load, store or update with the order relaxed, acquire, release or both. In the order in which they
+           happened each store and update, and each thread's first load of what another thread stored. A
+           store after a release fence is one with release. Of a fence with acquire the kind is fence, and
+           NAME is empty. Of a page's trace only those within its spans. Behind ORDER " again": it stands for
+           earlier ones of its kind too, which are omitted
+       crash THREAD TAB SIGNAL TAB ADDRESS TAB NODE
+           how the program ended, where a signal ended it that a thread's own code made; the address,
+           hexadecimal, is what it had no access to, or empty
+       source NAME TAB PATH
+           a source file, as locations name it, and where it was when it was compiled
+       line LOCATION TAB SUM
+           of the text that a frame's line has now, without the blanks at its ends: 16 hexadecimal digits. Not
+           where the file can't be read */
 #define _GNU_SOURCE
 #include <stdio.h>
 #include <stdlib.h>

@@ -166,7 +166,7 @@ class Decided(recorder.Case):
                              recorder.must(recorder.convert(path)).stdout, seed)
 
 
-MANY = 2**18 + 1  # variables; tables of recent ones have 2**16 and 2**18
+MANY = 2**20 + 1  # variables; tables of recent ones have 2**16 and 2**20
 
 
 def is_right_of_many(folder, converter):
@@ -198,19 +198,21 @@ FAULTS_OF_MANY = (
     ("accesses.c", " && last->piece == number", ""),
 )
 FAULTS = {  # to plant in the converter: the file, what stands there, and what in its place
-    "users": ("accesses.c", "if (b->user != t + 1 || with_others) b->many_users = 1;", "if (with_others) "
-              "b->many_users = 1;"),
+    "users": ("accesses.c", "    add_thread(&b->users, t);", ""),
     "cuts": ("accesses.c", "if (operation_of(i) != OP_FREE) cut(end_of(i));", ""),
-    "atomics": ("accesses.c", "if (u.writes_atomically && is_read_by_others(users, t)) {",
-                "if (u.writes_atomically && users->many_readers) {"),
+    "atomics": ("accesses.c", "if (u.writes_atomically && has_others(users->readers, t)) {",
+                "if (u.writes_atomically && users->readers.many) {"),
     "reuse": ("memory.c", "u32 newest = grain > p->whole ? grain : p->whole;", "u32 newest = grain ? 1 : "
               "p->whole;"),
     "late": ("late.c", "u64 order = late[k] >> NUMBER_BITS;", "u64 order = k - from;"),
     "list_name": ("events.c", "        part name = variable_name(p->at, block", "        part name = "
                   "variable_name(p->at & ~1ul, block"),
-    "shared_lock": ("objects.c", "    int orders = o->many_users || whole_trace;", "    int orders = "
+    "shared_lock": ("objects.c", "    int orders = o->all.many || whole_trace;", "    int orders = "
                     "whole_trace || is_atomic(operation_of(i));"),
     "repeats": ("accesses.c", " && last->writes == this.writes", ""),
+    "every write is the last": ("accesses.c", "if (i < p->last_write) {", "if (0) {"),
+    "who writes atomically is no writer": ("accesses.c", "    add_thread(&p->writers", "    if (u.writes) "
+                                           "add_thread(&p->writers"),
     "fences": ("objects.c", "if (releases(i)) threads[thread_of(i)].is_fenced = 1;", ""),
     "what others gave is dropped": ("objects.c", "if (g->giver != t && g->version > last)", "if (0)"),
     "more than gifts is given on": ("objects.c", " || threads[t].gave != index_of(o) + 1", ""),

@@ -288,6 +288,32 @@ class Orders(recorder.Case):
         self.assertEqual(traces[1], traces[0])
 
 
+OMITTED = [  # entries of a record, and the lines that each becomes: of reads that tell nothing none
+    (entry(0, "FORK", 1, 0x101), ["main|fork(T1)|0x101"]),
+    (entry(0, "WRITE", CELL, 0x102, 4), [f"main|w({CELL:#x})|0x102"]),
+    (entry(0, "READ", CELL, 0x103, 4), []),  # by who alone writes it
+    (entry(1, "READ", CELL, 0x201, 4), [f"T1|r({CELL:#x})|0x201"]),
+    (entry(1, "WRITE", CELL + 8, 0x202, 4), [f"T1|w({CELL + 8:#x})|0x202"]),
+    (entry(1, "READ", CELL, 0x201, 4), [f"T1|r({CELL:#x})|0x201"]),  # T1 may have told main of the first
+    (entry(0, "WRITE", CELL, 0x104, 4), [f"main|w({CELL:#x})|0x104"]),
+    (entry(1, "READ", CELL, 0x201, 4), [f"T1|r({CELL:#x})|0x201"]),  # it is another value
+    (entry(1, "WRITE", CELL + 8, 0x202, 4), [f"T1|w({CELL + 8:#x})|0x202"]),
+    (entry(1, "READ", CELL, 0x201, 4), []),  # it is written no more
+    (entry(0, "READ", CELL + 8, 0x105, 4), [f"main|r({CELL + 8:#x})|0x105"]),
+]
+
+
+class Omitted(recorder.Case):
+    def test_reads_that_tell_nothing(self):
+        record = self.folder / "app.rec"
+        record.write_bytes(HEADER + b"".join(entries for entries, _ in OMITTED))
+        trace = recorder.must(recorder.convert(record)).stdout
+        self.assertEqual(trace.decode().splitlines(), [line for _, lines in OMITTED for line in lines])
+        whole = recorder.must(recorder.convert(record, "-a")).stdout
+        self.assertEqual(len(whole.splitlines()), len(OMITTED))
+        self.assertEqual(recorder.places(whole), recorder.places(trace))
+
+
 class Held(recorder.Case):
     def test_locks_that_are_held_at_an_access_are_in_the_trace(self):
         record = self.folder / "app.rec"

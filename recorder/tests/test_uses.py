@@ -146,10 +146,11 @@ class Uses(recorder.Case):
                              ["main|w(0x40000000)|0x102"] * any(is_repeated), which)
 
     def test_a_read_that_stands_for_later_ones(self):
-        """Until the variable is written, or the thread orders another."""
+        """Until the variable is written, or the thread orders another who writes it."""
         read, written = entry(0, "READ", RANGE, 0x102, 4), entry(1, "WRITE", RANGE, 0x201, 4)
         lock = [entry(thread, kind, RANGE + 64, 0x103) for thread in (1, 0) for kind in ("LOCK", "UNLOCK")]
-        for between, is_repeated in (([], True), ([written], False), (lock, False),
-                                     ([entry(0, "READ", RANGE, 0x104, 4)], True)):
-            found = self.repeated([entry(0, "FORK", 1, 0x101), written, read, *between, read], "2 3")
-            self.assertEqual(found, ["main|r(0x40000000)|0x102"] * is_repeated)
+        for rest, is_repeated in (([read], True), ([written, read], False), ([*lock, read], True),
+                                  ([*lock, read, written], False),
+                                  ([entry(0, "READ", RANGE, 0x104, 4), read], True)):
+            found = self.repeated([entry(0, "FORK", 1, 0x101), written, read, *rest], "2 3")
+            self.assertEqual(found, ["main|r(0x40000000)|0x102"] * is_repeated, rest)
