@@ -68,13 +68,14 @@ void find_cuts(u64 i) {
 }
 
 /* ---- 3: users of pieces ---- */
-typedef struct { u32 thread; int writes, writes_atomically, reads; } use;
+/* own, site: in the fourth pass, once one of its pieces is shared; else 0 */
+typedef struct { u32 thread; int writes, writes_atomically, reads; u64 own; u32 site; } use;
 
 static use use_of(u64 i) {
     enum operation operation = operation_of(i);
     int writes = operation == OP_WRITE || operation == OP_FREE || operation == OP_DESTROY;
-    return (use){thread_of(i), writes, is_atomic(operation) && operation != OP_ATOMIC_LOAD,
-                 operation == OP_READ};
+    return (use){.thread = thread_of(i), .writes = writes, .reads = operation == OP_READ,
+                 .writes_atomically = is_atomic(operation) && operation != OP_ATOMIC_LOAD};
 }
 
 static void share_piece(u64 i, use u, u32 number) {
@@ -162,10 +163,10 @@ void begin_reads(void) {
 }
 
 /* *kept: the read that is compared with the next ones. */
-static int repeats(u64 i, u64 own, u32 number, read **kept) {
-    u32 t = thread_of(i);
+static int repeats(u64 i, const use *u, u32 number, read **kept) {
+    u32 t = u->thread;
     const piece *p = piece_of(number);
-    u64 site = site_of(own) | (u64)t << 32 | traces << 52;
+    u64 site = u->site | (u64)t << 32 | traces << 52;
     read this = {.site = site, .piece = number, .writes = p->writes};
     if (i < p->last_write) {
         this.epoch = threads[t].epoch + 1;
@@ -213,46 +214,48 @@ static int has_others(some_threads s, u32 t) { return s.many || (s.first && s.fi
 /* An atomic write is a read of X, so that it conflicts with plain writes, and a write of a variable of X and
    its thread alone, which the plain reads of others read too: so it conflicts with these, and never with an
    atomic access. A read by the only thread that writes conflicts with nothing, and tells nothing. */
-static void piece_events(u64 i, use u, u32 number, int is_kept) {
+static void piece_events(u64 i, use *u, u32 number, int is_kept) {
     const piece_use *users = use_of_piece(number);
-    u32 t = u.thread;
+    u32 t = u->thread;
     int shared = is_shared(users);
-    if (!shared && !u.writes_atomically && !users->written_atomically) return;
-    int only_reads = !u.writes && !u.writes_atomically;
+    if (!shared && !u->writes_atomically && !users->written_atomically) return;
+    int only_reads = !u->writes && !u->writes_atomically;
     if (only_reads && !has_others(users->writers, t) && !whole_trace) return;
-    u64 own = own_place(t, caller_of(i)), event_number = 0;
+    if (!u->own) u->own = own_place(t, caller_of(i));
+    if (!u->site) u->site = site_of(u->own);
+    u64 event_number = 0;
     read *kept = 0;
-    if (only_reads && repeats(i, own, number, &kept)) return;
+    if (only_reads && repeats(i, u, number, &kept)) return;
     piece *p = piece_of(number);
-    if (shared) event_number = piece_event(i, own, number, u.writes ? "w" : "r", NOBODY, is_kept);
+    if (shared) event_number = piece_event(i, u->own, number, u->writes ? "w" : "r", NOBODY, is_kept);
     if (kept) keep_event(kept, event_number);
-    if (u.writes) p->writes++;
-    if (u.writes_atomically && has_others(users->readers, t)) {
-        piece_event(i, own, number, "w", t, is_kept);
+    if (u->writes) p->writes++;
+    if (u->writes_atomically && has_others(users->readers, t)) {
+        piece_event(i, u->own, number, "w", t, is_kept);
         p->writes++;
     }
-    if (!u.reads) return;
+    if (!u->reads) return;
     for (const list_entry *k = entry_of_list(p->atomic_writers); k; k = entry_of_list(k->next))
-        if (k->thread != t) keep_event(kept, piece_event(i, own, number, "r", k->thread, is_kept));
+        if (k->thread != t) keep_event(kept, piece_event(i, u->own, number, "r", k->thread, is_kept));
 }
 
-static char word_of(u64 i, use u) {
-    return operation_of(i) == OP_FREE ? 'f' : u.writes ? 'w' : u.writes_atomically ? 'a' : 'r';
+static char word_of(u64 i, const use *u) {
+    return operation_of(i) == OP_FREE ? 'f' : u->writes ? 'w' : u->writes_atomically ? 'a' : 'r';
 }
 
-static void use_piece(u64 i, use u, u32 number) {
+static void use_piece(u64 i, use *u, u32 number) {
     u64 before = written;
     int is_kept = takes_piece(number);
     piece_events(i, u, number, is_kept);
-    if (is_kept) count_use(u.thread, caller_of(i), number, word_of(i, u));
+    if (is_kept) count_use(u->thread, caller_of(i), number, word_of(i, u));
     if (!with_stacks || !is_kept) return;
     const piece *p = piece_of(number);
     const block *b = block_of(p->block);
     /* of a local only an event has a name; of a block any access may tell it */
     if (written == before && (!b || b->stack)) return;
-    note_name(p->at, p->block, before + 1, u.thread);
+    note_name(p->at, p->block, before + 1, u->thread);
     if (operation_of(i) == OP_FREE) return;
-    const int writes = u.writes || u.writes_atomically;
+    const int writes = u->writes || u->writes_atomically;
     note_use_of_block(p->at, p->block,
                       (use_of_block){address_of(i), accessed_bytes(i), caller_of(i), writes});
 }
@@ -261,9 +264,9 @@ void access_events(u64 i) {
     u32 found = known[i].accessed;
     if (!found) return;
     use u = use_of(i);
-    if (found <= MOST_PIECES) use_piece(i, u, found);
+    if (found <= MOST_PIECES) use_piece(i, &u, found);
     else for (const run *r = &runs.at[found - MOST_PIECES - 1];; r++) {
-        for (u32 k = 0; k < r->count && !cut_reason; k++) use_piece(i, u, r->first + k);
+        for (u32 k = 0; k < r->count && !cut_reason; k++) use_piece(i, &u, r->first + k);
         if (r->is_last) return;
     }
 }

@@ -12,8 +12,7 @@
    way, and sums of that by threads, call stacks and locks; and which events of the page's trace those of the
    races are. Lines, with tabs between their fields, behind USES_BEGIN:
        use WORD VARIABLE LOCAL LOCATION SUM..
-           WORD is r, w, a (written atomically) or f (freed). A SUM is three fields; COUNT is how many
-           accesses
+           WORD is r, w, a (written atomically) or f (freed). A SUM is three fields, of COUNT accesses:
            by COUNT THREAD          the thread makes
            bare COUNT STACK         hold no lock, and have this stack: a number of the file of stacks, or 0
            held COUNT STACK         hold locks, and have it; "many" in its place: over 64, with no sum of each

@@ -70,8 +70,7 @@ u64 caller_of(u64 i) { return record_at(i)->what & LOW_48_BITS; }
 u64 late_context(u64 i) { return contexts_at_hand ? contexts_at_hand[i] % IS_REPEATED : 0; }
 int is_repeated(u64 i) { return contexts_at_hand && contexts_at_hand[i] / IS_REPEATED; }
 
-/* ---- threads: a number is used again by the next one that is forked with it, for the one before is
-   over ---- */
+/* ---- threads: the number of one that is over is used again by the next one forked with it ---- */
 static u32 thread_count;               /* of those met in this pass */
 static u32 with_number[THREAD_NUMBERS];
 static uint8_t is_used[THREAD_NUMBERS]; /* by one that was forked, or was there when a segment began */
@@ -220,8 +219,7 @@ static void refuse(const char *file, const char *path) {
     size_t before = strcspn(RECORD_MAGIC, "0123456789"), digits = strspn(file + before, "0123456789");
     if (strncmp(file, RECORD_MAGIC, before) || !digits || digits > 9) die("%s is no record", path);
     die("%s is a record of version %.*s, by another version of the recorder; this shb-std reads version %.*s",
-        path,
-        (int)digits, file + before, (int)strcspn(RECORD_MAGIC + before, "\n"), RECORD_MAGIC + before);
+        path, (int)digits, file + before, (int)strcspn(RECORD_MAGIC + before, "\n"), RECORD_MAGIC + before);
 }
 
 void open_record(const char *path) {
