@@ -200,8 +200,8 @@ FAULTS_OF_MANY = (
 FAULTS = {  # to plant in the converter: the file, what stands there, and what in its place
     "users": ("accesses.c", "    add_thread(&b->users, t);", ""),
     "cuts": ("accesses.c", "if (operation_of(i) != OP_FREE) cut(end_of(i));", ""),
-    "atomics": ("accesses.c", "if (u.writes_atomically && has_others(users->readers, t)) {",
-                "if (u.writes_atomically && users->readers.many) {"),
+    "atomics": ("accesses.c", "if (u->writes_atomically && has_others(users->readers, t)) {",
+                "if (u->writes_atomically && users->readers.many) {"),
     "reuse": ("memory.c", "u32 newest = grain > p->whole ? grain : p->whole;", "u32 newest = grain ? 1 : "
               "p->whole;"),
     "late": ("late.c", "u64 order = late[k] >> NUMBER_BITS;", "u64 order = k - from;"),
