@@ -18,6 +18,7 @@ typedef struct {
     u32 holder, depth;                 /* of a lock: the thread that took it, plus one, and how often */
     /* how often it gave something; the number of the lock of its updates */
     u32 version, head;
+    u32 stores;                        /* of the atomic: so far */
     VECTOR(gift) gifts;                /* what its present value gives */
     u32 posts;                         /* of a semaphore */
     VECTOR(u32) waiters;               /* of it; of a reader-writer lock: the readers since the last writer */
@@ -30,8 +31,8 @@ typedef struct {
 
 static INTERNED(object) objects;
 /* For a thread and an object: the last version, post or round that the thread has seen, and the last version
-   that it will take at a fence. */
-typedef struct { u32 last, noted; } sight;
+   that it will take at a fence; the last that it gave itself, and behind how many stores. */
+typedef struct { u32 last, noted, gave, stores; } sight;
 static INTERNED(sight) seen;
 static INTERNED(u32) version_readers;  /* for object and version: the list of those who will read it */
 
@@ -145,14 +146,26 @@ static int gives(u64 i) { return releases(i) || threads[thread_of(i)].is_fenced;
 /* An update that acquires and releases does so by a lock that it shares with its like. */
 static int is_by_lock(u64 i) { return operation_of(i) == OP_ATOMIC_UPDATE && acquires(i) && gives(i); }
 
-/* A store that gives begins anew; any other ends what other threads gave, and keeps its own thread's. */
+static void give_own(object *o, u32 t, int locked) {
+    give(o, t, locked);
+    sight *s = sight_of(o, t);
+    s->gave = o->version;
+    s->stores = o->stores;
+}
+
+/* A store that gives begins anew; any other ends what other threads gave, and goes on with its own thread's,
+   which may be in a gift of another one by now. */
 static void store_value(u64 i, object *o) {
     u32 t = thread_of(i);
-    u64 kept = 0;
-    EACH(g, o->gifts.at, gives(i) ? 0 : o->gifts.count)
-        if (g->giver == t) o->gifts.at[kept++] = (gift){g->version, t, 0};
-    o->gifts.count = kept;
-    if (gives(i)) give(o, t, 1);
+    sight *s = sight_of(o, t);
+    int goes_on = !gives(i) && s->gave && s->stores == o->stores;
+    o->gifts.count = 0;
+    o->stores++;
+    if (goes_on) {
+        *PUSH(o->gifts) = (gift){s->gave, t, 0};
+        s->stores = o->stores;
+    }
+    if (gives(i)) give_own(o, t, 1);
     else o->version++;
     o->head = o->version;
 }
@@ -165,7 +178,7 @@ static void write_value(u64 i, object *o) {
         store_value(i, o);
         return;
     }
-    if (gives(i)) give(o, thread_of(i), is_by_lock(i));
+    if (gives(i)) give_own(o, thread_of(i), is_by_lock(i));
 }
 
 static void pass_fence(u64 i, handing hand) {

@@ -244,16 +244,18 @@ ORDERS = [  # of T1 and T2: who gives what to whom, lock by lock
     (entry(2, "ATOMIC_LOAD", ATOMIC, 0x301, 4 | RELAXED), []),
     (entry(2, "FENCE", 0, 0x302, 2), ["T2|acq(0x10000000@1>T2)|0x302", "T2|rel(0x10000000@1>T2)|0x302"]),
     (entry(1, "ATOMIC_UPDATE", ATOMIC, 0x203, 4 | BOTH),
-     ["T1|acq(0x10000000@1)|0x203", "T1|rel(0x10000000@1)|0x203"]),
+     ["T1|acq(0x10000000@1)|0x203", "T1|rel(0x10000000@1)|0x203", "T1|acq(0x10000000@2>T2)|0x203",
+      "T1|rel(0x10000000@2>T2)|0x203"]),
     (entry(2, "ATOMIC_UPDATE", ATOMIC, 0x303, 4 | RELEASE),  # a gift of its own, which main takes below
      ["T2|acq(0x10000000@3>main)|0x303", "T2|rel(0x10000000@3>main)|0x303"]),
     (entry(0, "ATOMIC_UPDATE", ATOMIC, 0x104, 4 | BOTH),
      ["main|acq(0x10000000@3>main)|0x104", "main|rel(0x10000000@3>main)|0x104",
       "main|acq(0x10000000@1)|0x104",
       "main|rel(0x10000000@1)|0x104"]),
-    # ends what the others gave, and keeps what T1 gave: nothing
+    # ends what the others gave, and goes on with what T1 gave at 0x203
     (entry(1, "ATOMIC_STORE", ATOMIC, 0x204, 4 | RELAXED), []),
-    (entry(2, "ATOMIC_LOAD", ATOMIC, 0x304, 4 | ACQUIRE), []),
+    (entry(2, "ATOMIC_LOAD", ATOMIC, 0x304, 4 | ACQUIRE),
+     ["T2|acq(0x10000000@2>T2)|0x304", "T2|rel(0x10000000@2>T2)|0x304"]),
     (entry(1, "FENCE", 0, 0x205, 3), []),
     (entry(1, "ATOMIC_STORE", ATOMIC, 0x206, 4 | RELAXED),  # after the fence it gives
      ["T1|acq(0x10000000@6)|0x206", "T1|rel(0x10000000@6)|0x206", "T1|acq(0x10000000@6>T2)|0x206",
@@ -269,6 +271,19 @@ class Orders(recorder.Case):
         record.write_bytes(HEADER + b"".join(entries for entries, _ in ORDERS))
         trace = recorder.must(recorder.convert(record)).stdout
         self.assertEqual(trace.decode().splitlines(), [line for _, lines in ORDERS for line in lines])
+
+    def test_a_store_goes_on_with_what_its_thread_gave(self):
+        """Also behind an update by another thread that has taken it; what that thread gave has ended."""
+        record = self.folder / "app.rec"
+        record.write_bytes(HEADER + b"".join([
+            entry(0, "FORK", 1, 0x101), entry(0, "FORK", 2, 0x102),
+            entry(0, "WRITE", CELL, 0x103, 4), entry(0, "ATOMIC_STORE", ATOMIC, 0x104, 4 | RELEASE),
+            entry(1, "WRITE", CELL + 8, 0x201, 4), entry(1, "ATOMIC_UPDATE", ATOMIC, 0x202, 4 | BOTH),
+            entry(0, "ATOMIC_STORE", ATOMIC, 0x105, 4 | RELAXED),
+            entry(2, "ATOMIC_LOAD", ATOMIC, 0x301, 4 | ACQUIRE),
+            entry(2, "READ", CELL, 0x302, 4), entry(2, "READ", CELL + 8, 0x303, 4)]))
+        trace = recorder.must(recorder.convert(record)).stdout
+        self.assertEqual(recorder.places(trace), {("0x201", "0x303")})
 
     def test_what_is_late_and_private_changes_nothing(self):
         """A thread's access of its own stack, held back, comes between what the thread took and what
