@@ -97,12 +97,9 @@ impl Front {
 
     /// What the text is, if it is known to be no trace.
     fn other(&self) -> Option<WayOut> {
-        for (at, other) in OTHERS.iter().enumerate() {
-            if self.bytes.as_slice().starts_with(other.0) {
-                return Some(WayOut::Other(at));
-            }
-        }
-        None
+        let bytes = self.bytes.as_slice();
+        let at = OTHERS.iter().position(|other| bytes.starts_with(other.0))?;
+        Some(WayOut::Other(at))
     }
 }
 

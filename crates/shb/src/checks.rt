@@ -19,27 +19,22 @@ const END: [u8; 5] = *b"\nend\n";
 
 /// A reader that keeps the last bytes that it gave, and else is the reader inside.
 #[derive(Drop)]
-pub(crate) struct Tailed<Q> {
+struct Tailed<Q> {
     reader: Q,
     tail: [u8; 5],
 }
 
 impl<Q: Read> Tailed<Q> {
     /// The same reader. Nothing was given.
-    pub(crate) fn new(reader: Q) -> Tailed<Q> {
+    fn new(reader: Q) -> Tailed<Q> {
         Tailed {
             reader,
             tail: [0; 5],
         }
     }
 
-    /// The reader inside.
-    pub(crate) fn reader(&self) -> &Q {
-        &self.reader
-    }
-
     /// Whether what was given ends as every report does.
-    pub(crate) fn has_end(&self) -> bool {
+    fn has_end(&self) -> bool {
         self.tail.as_slice() == END.as_slice()
     }
 }
@@ -71,7 +66,7 @@ fn closed<R: Input>(rt: &R) -> Option<Error> {
 /// Says of a report that is longer than a check reads, and to a user who watches of one that is cut off, why its verdict
 /// is a bad line.
 fn tell_end<R: Eprint, Q: Read>(rt: &R, report: &Tailed<Take<Q>>, is_watched: bool) {
-    if report.reader().limit() == 0 {
+    if report.reader.limit() == 0 {
         let _ = eprintln!(rt; "the report is longer than {MOST_BYTES} bytes");
     } else if is_watched && !report.has_end() {
         let _ = rt.eprintln("the report doesn't end with the line 'end': it is cut off");

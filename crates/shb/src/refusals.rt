@@ -77,16 +77,13 @@ impl Ending {
     ) -> Ending
         ensures { result.status ≡ status }
     {
-        match line {
-            Ok(line) => {
-                let _ = rt.eprintln(line.as_str());
-                Ending {
-                    status,
-                    refusal,
-                    way_out: None,
-                }
-            }
-            Err(_) => Ending::well(status),
+        let Ok(line) = line else {
+            return Ending::well(status);
+        };
+        let _ = rt.eprintln(line.as_str());
+        Ending {
+            refusal,
+            ..Ending::well(status)
         }
     }
 
@@ -101,12 +98,8 @@ impl Ending {
             }),
             _ => None,
         };
-        Ending::told(
-            rt,
-            exit_status(error),
-            fault_line(rt.alloc(), error),
-            refusal,
-        )
+        let line = fault_line(rt.alloc(), error);
+        Ending::told(rt, exit_status(error), line, refusal)
     }
 
     /// That of a stream whose nearest races were listed.
@@ -181,9 +174,8 @@ fn read_to<S: Source>(lines: &mut Lines, source: &mut S, number: u64) -> bool
     requires { S.failure_count source.old ≡ 0 }
 {
     for _ in 0..number {
-        match lines.next(source, MOST_LINE) {
-            Ok(Next::Line | Next::Last) => {}
-            _ => return false,
+        if !matches!(lines.next(source, MOST_LINE), Ok(Next::Line | Next::Last)) {
+            return false;
         }
     }
     true
@@ -213,10 +205,10 @@ fn opens(fault: Fault, refused: Parts<'_>, line: Parts<'_>) -> bool {
 
 /// Whether a line undoes one that the refused line can't follow: a release of its lock.
 fn closes(fault: Fault, refused: Parts<'_>, line: Parts<'_>) -> bool {
-    match (fault, line.word) {
-        (Fault::LockHeld | Fault::NotHeld, b"rel") => line.name == refused.name,
-        _ => false,
-    }
+    matches!(
+        (fault, line.word),
+        (Fault::LockHeld | Fault::NotHeld, b"rel")
+    ) && line.name == refused.name
 }
 
 /// The line that the refused one can't follow, as far as lines were looked at.

@@ -74,22 +74,8 @@ fn write_task<
     }
 }
 
-/// Does a task over a source: writes to standard output, and says on standard error why nothing is written.
-fn do_task<R: Print + Eprint + AllocGlobal + RandomSource + Threads + Wait + Sync, S: Source>(
-    rt: &R,
-    source: &mut S,
-    task: Task,
-) -> Ending
-    requires { S.failure_count source.old ≡ 0 }
-{
-    let mut output = Reasoned::new(writer(rt));
-    let ending = write_task(rt, source, &mut output, task);
-    output.tell_failure(rt, STANDARD_OUTPUT);
-    ending
-}
-
-/// Does a task over what a reader gives, and says on standard error what there is to say of the trace, to a user who
-/// watches or not, and of the reader, which has this name.
+/// Does a task over what a reader gives: writes to standard output, and says on standard error what there is to say of the
+/// trace, to a user who watches or not, and of the reader, which has this name.
 fn do_named<R: Print + Eprint + AllocGlobal + RandomSource + Threads + Wait + Sync, Q: Read + Drop>(
     rt: &R,
     reader: Q,
@@ -99,7 +85,9 @@ fn do_named<R: Print + Eprint + AllocGlobal + RandomSource + Threads + Wait + Sy
 ) -> Ending {
     let mut reader = Reasoned::new(reader);
     let mut source = Begun::new(FromRead::new(&mut reader));
-    let ending = do_task(rt, &mut source, task);
+    let mut output = Reasoned::new(writer(rt));
+    let ending = write_task(rt, &mut source, &mut output, task);
+    output.tell_failure(rt, STANDARD_OUTPUT);
     source.tell_notes(rt, is_watched && ending.status == 0);
     let way_out = source.way_out(is_watched);
     reader.tell_failure(rt, name);
