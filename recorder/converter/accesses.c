@@ -166,7 +166,7 @@ void begin_reads(void) {
 static int repeats(u64 i, const use *u, u32 number, read **kept) {
     u32 t = u->thread;
     const piece *p = piece_of(number);
-    u64 site = u->site | (u64)t << 32 | traces << 52;
+    u64 site = u->site | (u64)t << 32 | traces << 52 | (u64)u->reads << 63;  /* an atomic one tells less */
     read this = {.site = site, .piece = number, .writes = p->writes};
     if (i < p->last_write) {
         this.epoch = threads[t].epoch + 1;

@@ -328,6 +328,16 @@ class Omitted(recorder.Case):
         self.assertEqual(len(whole.splitlines()), len(OMITTED))
         self.assertEqual(recorder.places(whole), recorder.places(trace))
 
+    def test_an_atomic_read_stands_for_no_plain_one(self):
+        """It doesn't conflict with an atomic write."""
+        record = self.folder / "app.rec"
+        record.write_bytes(HEADER + b"".join([
+            entry(0, "FORK", 1, 0x101), entry(0, "ATOMIC_STORE", ATOMIC, 0x102, 4 | RELAXED),
+            entry(0, "WRITE", ATOMIC + 4, 0x103, 4), entry(1, "ATOMIC_LOAD", ATOMIC, 0x201, 4 | RELAXED),
+            entry(1, "READ", ATOMIC, 0x201, 4)]))
+        trace = recorder.must(recorder.convert(record)).stdout
+        self.assertEqual(recorder.places(trace), {("0x102", "0x201")})
+
 
 class Held(recorder.Case):
     def test_locks_that_are_held_at_an_access_are_in_the_trace(self):
