@@ -148,7 +148,7 @@ piece *only_piece(u64 i) {
    it orders, the first does too. Behind the variable's last write it conflicts with nothing that comes, so
    locks and orders don't matter. A place is a location: of two reads in one line the second repeats the
    first. */
-enum { RECENT = 1 << 20 };
+enum { RECENT = 1 << 18 };
 typedef struct {
     u64 site, epoch, locks;
     u32 piece, writes;
@@ -166,13 +166,13 @@ void begin_reads(void) {
 static int repeats(u64 i, const use *u, u32 number, read **kept) {
     u32 t = u->thread;
     const piece *p = piece_of(number);
-    u64 site = u->site | (u64)t << 32 | traces << 52 | (u64)u->reads << 63;  /* an atomic one tells less */
-    read this = {.site = site, .piece = number, .writes = p->writes};
+    u64 site = u->site | (u64)t << 32 | (u64)u->reads << 63; /* an atomic one tells less */
+    read this = {.site = site | traces << 52, .piece = number, .writes = p->writes};
     if (i < p->last_write) {
         this.epoch = threads[t].epoch + 1;
         this.locks = threads[t].locks;
     }
-    u64 slot = (mix(site, 0) + number) & (RECENT - 1);       /* neighbours stand side by side */
+    u64 slot = (mix(site, 0) + number) & (RECENT - 1);       /* of each trace; neighbours are side by side */
     read *last = *kept = &recent[slot];
     int same = last->site == this.site && last->piece == number && last->writes == this.writes
         && last->epoch == this.epoch && last->locks == this.locks && !whole_trace;

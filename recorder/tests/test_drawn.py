@@ -166,7 +166,7 @@ class Decided(recorder.Case):
                              recorder.must(recorder.convert(path)).stdout, seed)
 
 
-MANY = 2**20 + 1  # variables; tables of recent ones have 2**16 and 2**20
+MANY = 2**18 + 1  # variables; tables of recent ones have 2**16 and 2**18
 
 
 def is_right_of_many(folder, converter):
@@ -185,6 +185,22 @@ def is_right_of_many(folder, converter):
 class Many(recorder.Case):
     def test_more_variables_than_tables_of_recent_ones_have(self):
         self.assertTrue(is_right_of_many(self.folder, recorder.BUILT / "shb-std"))
+
+    def test_a_page_omits_the_same_reads_as_the_list(self):
+        """Also where reads at two places share entries of the table of recent ones."""
+        record, races, page, uses = (self.folder / name for name in ("app.rec", "races", "page", "uses"))
+        variables = range(0x100000, 0x100000 + 8 * (MANY // 2), 8)
+        accesses = (1, "READ", 0x201), (1, "READ", 0x202), (1, "READ", 0x201), (0, "WRITE", 0x102)
+        record.write_bytes(HEADER + entry(0, "FORK", 1, 0x101)
+                           + b"".join(entry(t, kind, at, place, 8) for t, kind, place in accesses
+                                      for at in variables))
+        trace = recorder.must(recorder.convert(record, "--list")).stdout.decode().splitlines()
+        name = hex(variables[-1])
+        one, other = (trace.index(line) + 1 for line in (f"T1|r({name})|0x201", f"main|w({name})|0x102"))
+        races.write_text(f"{one} {other} {name}\n")
+        recorder.must(recorder.convert(record, "--list", "--only", races, "--page", page, "--uses", uses))
+        events = [line for line in uses.read_text().splitlines() if line.startswith("event\t")]
+        self.assertEqual([line.split("\t")[2] for line in events], [str(one), str(other)])
 
     def test_each_fault_is_found(self):
         for number, (name, before, after) in enumerate(FAULTS_OF_MANY):
