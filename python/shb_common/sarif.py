@@ -66,7 +66,7 @@ class Here:
 
     def __init__(self, folder):
         folders = [folder, *folder.parents]
-        read_lines.cache_clear()    # files may have changed since
+        self.read = functools.lru_cache(maxsize=64)(read_lines)
         self.top = os.fsencode(next((one for one in folders if (one / ".git").exists()), folder)) + b"/"
 
     def find(self, path, compiled=b""):
@@ -74,7 +74,7 @@ class Here:
         return compiled[len(self.top):] if compiled.startswith(self.top) else None
 
     def line(self, source, number):
-        lines, _, _ = read_lines(self.top + source)
+        lines, _, _ = self.read(self.top + source)
         return lines[number - 1].strip() if number <= len(lines) else None
 
 

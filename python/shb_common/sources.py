@@ -40,9 +40,8 @@ class Index:
         return self.paths.get(name, {})
 
 
-@functools.lru_cache(maxsize=64)
 def read_lines(file):
-    """A file's lines, when it was changed, and why it can't be shown, as they are at the first call."""
+    """A file's lines, when it was changed, and why it can't be shown."""
     try:
         with open(os.open(file, os.O_RDONLY | os.O_NOFOLLOW | os.O_NONBLOCK), "rb") as opened:
             status = os.fstat(opened.fileno())
@@ -66,6 +65,7 @@ class Sources:
 
     def __init__(self, folder=None):
         self.folder = os.fsencode(os.path.realpath(folder)) if folder else None
+        self.read = functools.lru_cache(maxsize=64)(read_lines)
 
     @functools.cached_property
     def index(self):
@@ -90,5 +90,5 @@ class Sources:
 
     def line(self, path, number):
         """The text of a line of a file that was found, without blanks around it; None if there is none."""
-        lines, _, _ = read_lines(os.path.join(self.folder, path))
+        lines, _, _ = self.read(os.path.join(self.folder, path))
         return b" ".join(lines[number - 1].split()) if number <= len(lines) else None

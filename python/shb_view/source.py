@@ -3,6 +3,7 @@ is looked up in an index of the folders that were named, and where it was asked 
 of the program's sources."""
 
 import collections
+import functools
 import os
 import re
 
@@ -35,7 +36,7 @@ class Source:
     def __init__(self, folders, written, recorded):
         """`written` is when the trace was, `recorded` has files by their names in locations."""
         self.folders, self.written, self.recorded = folders, written, recorded
-        sources.read_lines.cache_clear()    # files may have changed since an earlier view
+        self.read = functools.lru_cache(maxsize=64)(sources.read_lines)
         for folder in folders:
             if not os.path.isdir(folder):
                 raise Refused(f"--source: {readable(folder)} isn't a folder")
@@ -57,7 +58,7 @@ class Source:
                      "the folder of one of them")
             return Place(path, number, [], fault, False)
         [(name, file)] = candidates
-        lines, modified, fault = sources.read_lines(file)
+        lines, modified, fault = self.read(file)
         is_newer = modified > self.written
         if not fault and not 0 < number <= len(lines):
             fault = f"the file has {counted(len(lines), 'line')}"
