@@ -13,7 +13,7 @@ typedef struct {
     u64 at;
     const char *mark;                  /* before the versions in its names */
     u32 block;                         /* its number, or 0 */
-    some_threads all;                  /* that used it */
+    some_threads threads;              /* that used it */
     u32 lock;                          /* the number of its own lock in the trace, once it has one */
     u32 holder, depth;                 /* of a lock: the thread that took it, plus one, and how often */
     /* how often it gave something; the number of the lock of its updates */
@@ -225,7 +225,7 @@ void share_object(u64 i) {
     u32 t = thread_of(i);
     enum operation operation = operation_of(i);
     object *o = object_of(i);
-    add_thread(&o->all, t);
+    add_thread(&o->threads, t);
     switch (operation) {
     case OP_LOCK: case OP_UNLOCK: case OP_LOCK_INIT: share_lock(o, t, operation); break;
     case OP_ATOMIC_LOAD: case OP_ATOMIC_STORE: case OP_ATOMIC_UPDATE: share_atomic(i, o); break;
@@ -444,7 +444,7 @@ static void atomic_events(u64 i, object *o) {
     u64 caller = caller_of(i);
     int stores = operation_of(i) == OP_ATOMIC_STORE, loads = operation_of(i) == OP_ATOMIC_LOAD;
     int by_lock = is_by_lock(i) || (stores && gives(i));
-    if (o->all.many) note_use(i, index_of(o), gives(i));
+    if (o->threads.many) note_use(i, index_of(o), gives(i));
     if (!stores) read_value(i, o, by_lock, take_version);
     if (loads && acquires(i) && gives_all_on(o, t)) publish(o, t, caller);
     if (!loads) write_value(i, o);
@@ -525,7 +525,7 @@ static void order_events(u64 i, object *o) {
 
 void object_events(u64 i) {
     object *o = object_of(i);
-    int orders = o->all.many || whole_trace;
+    int orders = o->threads.many || whole_trace;
     holds_before(i, o, !orders);
     if (!is_atomic(operation_of(i)) || !orders) access_events(i);
     if (orders) order_events(i, o);

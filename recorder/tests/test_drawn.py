@@ -223,8 +223,9 @@ FAULTS = {  # to plant in the converter: the file, what stands there, and what i
     "late": ("late.c", "u64 order = late[k] >> NUMBER_BITS;", "u64 order = k - from;"),
     "list_name": ("events.c", "        part name = variable_name(p->at, block", "        part name = "
                   "variable_name(p->at & ~1ul, block"),
-    "shared_lock": ("objects.c", "    int orders = o->all.many || whole_trace;", "    int orders = "
+    "shared_lock": ("objects.c", "    int orders = o->threads.many || whole_trace;", "    int orders = "
                     "whole_trace || is_atomic(operation_of(i));"),
+    "an atomic read stands for a plain one": ("accesses.c", " | (u64)u->reads << 63", ""),
     "repeats": ("accesses.c", " && last->writes == this.writes", ""),
     "every write is the last": ("accesses.c", "if (i < p->last_write) {", "if (0) {"),
     "who writes atomically is no writer": ("accesses.c", "    add_thread(&p->writers", "    if (u.writes) "
