@@ -23,7 +23,7 @@ class Drawn:
     all_words, sizes, longest_run = WORDS, (4, 4, 8, 16), 8
 
     def __init__(self, seed):
-        self.draw = random.Random(seed)
+        self.draw, self.are_apart = random.Random(seed), seed % 2 == 0
         self.cells = [0x5000 + 8 * k for k in range(self.draw.randrange(1, 4))]
         self.places, self.words = self.draw.randrange(1, 5), self.draw.choice(self.all_words)
         self.owners, self.readers, self.running, self.steps = {}, set(), [0], []
@@ -35,7 +35,8 @@ class Drawn:
             self.begin_or_end_a_thread()
 
     def add(self, operation, address, size=0):
-        place = (self.thread + 1) << 16 | len(operation) << 8 | self.draw.randrange(self.places) + 1
+        kind = len(operation) if self.are_apart else 0  # else all kinds of accesses share locations
+        place = (self.thread + 1) << 16 | kind << 8 | self.draw.randrange(self.places) + 1
         self.steps.append(Step(self.thread, operation, address, place, size))
 
     @property
