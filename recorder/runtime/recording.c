@@ -129,19 +129,12 @@ static void add(const thread *t, enum operation operation, uint64_t where, uint6
 
 enum { ROOM = 5 };                     /* of one access, its depth and its way, with sizes */
 
-/* How many of the functions that the thread is in are contexts that are recorded. */
-static uint32_t count_recorded(const thread *t) {
-    uint32_t depth = recordable_depth(t);
-    while (depth && context_at(t, depth)->number == NOT_RECORDED) depth--;
-    return depth;
-}
-
 static void note_told(thread *t, const context *c) { t->told = is_kept_context(c) ? c : 0; }
 
-/* Tells the record that the thread is in so many of its functions, where it hasn't these; or these alone. */
-static void tell_context(thread *t, uint32_t depth, int is_exact) {
-    const context *now = context_at(t, depth), *c = t->told;
-    while (c && c->depth > depth && !is_exact) c = c->outer;
+/* Tells the record that the thread is in these of its functions, where it hasn't them; or them alone. */
+static void tell_context(thread *t, const context *now, int is_exact) {
+    const context *c = t->told;
+    while (c && c->depth > now->depth && !is_exact) c = c->outer;
     if (c == now) return;
     add(t, OP_CONTEXT, now->number, 0, 0);
     note_told(t, now);
@@ -175,10 +168,12 @@ static int make_room(uint64_t count) {
     return recording;
 }
 
+/* Those of the functions that the thread is in that the record hasn't. */
 static void add_contexts(thread *t) {
-    uint32_t depth = recordable_depth(t), d = count_recorded(t);
+    uint32_t depth = t->in->depth, d = depth;
+    while (d && context_at(t, d)->number == NOT_RECORDED) d--;
     if (d == depth || !make_room(4 * (depth - d) + 1)) return;
-    tell_context(t, d, 0);
+    tell_context(t, context_at(t, d), 0);
     for (; d < depth; d++) {
         context *c = t->frames[d].in;
         uint64_t place = place_of_frame(t, d);
@@ -196,12 +191,17 @@ int begin_work(thread *t) {
     return recording;
 }
 
+static int is_same_read(const struct read *one, const struct read *other) {
+    return one->r.where == other->r.where && one->r.what == other->r.what && one->changes == other->changes
+        && one->context == other->context;
+}
+
 /* Is it a read that the thread made before, with nothing but reads of any thread in between?  Then it got the
    same value, by the same order. Where there are cells most such reads are held back. */
 static int is_repeated(thread *t, struct record r) {
-    const struct read now = {r, changes, context_at(t, recordable_depth(t))};
+    const struct read now = {r, changes, t->in};
     for (int i = 0; i < RECENT_READS; i++)
-        if (!memcmp(&t->recent[i], &now, sizeof now)) return 1;
+        if (is_same_read(&t->recent[i], &now)) return 1;
     t->recent[t->next_recent++ % RECENT_READS] = now;
     return 0;
 }
@@ -261,9 +261,9 @@ static void put_now(thread *t, enum operation operation, pointer address, uint64
     uint64_t inside = inside_of(t, operation, size);
     changes += !only_reads(operation);
     struct record r = record_of(t, operation, (uint64_t)address, inside, caller);
-    if (is_held_back(t, operation, r, bytes_of(operation, size)) || is_repeated(t, r) || !make_room(ROOM))
-        return;
-    tell_context(t, recordable_depth(t), inside >> LOGARITHM_BITS == DEPTH_BEFORE
+    if (is_held_back(t, operation, r, bytes_of(operation, size))
+        || (only_reads(operation) && is_repeated(t, r)) || !make_room(ROOM)) return;
+    tell_context(t, t->in, inside >> LOGARITHM_BITS == DEPTH_BEFORE
                  || !has_depth_inside(operation, size));
     uint64_t way = is_plain(operation) ? 0 : way_to(t, t->depth, caller);
     if (way) add(t, OP_WAY, 0, 0, way);
