@@ -119,11 +119,13 @@ static void *out_of_memory(void) {
 typedef struct { uint32_t *use; uint64_t *word; } key;
 
 static key key_in(key_line *line, int k) { return (key){&line->uses[k], &line->words[k]}; }
-static int key_count(const cell *c) { return c->log_lines ? KEYS_OF_LINE << (c->log_lines - 1) : KEYS; }
+static int lines_of(const cell *c) { return c->log_lines ? 1 << (c->log_lines - 1) : 0; }
+static int key_count(const cell *c) { return c->log_lines ? KEYS_OF_LINE * lines_of(c) : KEYS; }
 static key key_at(cell *c, int k) {
     return c->log_lines ? key_in((key_line *)c->words[0] + k / KEYS_OF_LINE, k % KEYS_OF_LINE)
         : (key){&c->uses[k], &c->words[k]};
 }
+static int is_used(key key) { return key.use && *key.use; }
 static int is_held(key key) { return *key.use && *key.word; }
 
 static key_line *new_table(int log) {
@@ -131,7 +133,8 @@ static key_line *new_table(int log) {
     key_line *table = free_tables[log];
     if (table) {
         free_tables[log] = (key_line *)table->words[0];
-        memset(table, 0, bytes);
+        for (key_line *line = table; line < table + (1 << (log - 1)); line++)
+            for (int k = 0; k < KEYS_OF_LINE; k++) line->uses[k] = 0;
         return table;
     }
     table = memory_of_keys >= bytes ? memory_from(&key_pool, bytes) : 0;
@@ -147,20 +150,36 @@ static void free_table(cell *c) {
     c->log_lines = 0;
 }
 
-/* The key for a use that isn't there. */
-static key free_key(cell *c, uint32_t use) {
-    if (!c->log_lines) return key_at(c, c->used);
-    for (key_line *line = line_of_use(c, use);; line = next_line(c, line))
-        for (int k = 0; k < KEYS_OF_LINE; k++)
-            if (!line->uses[k]) return key_in(line, k);
+/* That of a use, or the free one where it would be; none if it isn't there and the cell has no room. */
+static inline key find_key(cell *c, uint32_t use) {
+    if (c->log_lines)
+        for (key_line *line = line_of_use(c, use);; line = next_line(c, line))
+            for (int k = 0; k < KEYS_OF_LINE; k++)
+                if (line->uses[k] == use || !line->uses[k]) return key_in(line, k);
+    for (int k = 0; k < KEYS; k++)
+        if (c->uses[k] == use || !c->uses[k]) return key_at(c, k);
+    return (key){0};
 }
 
-static uint64_t *insert_key(cell *c, uint32_t use, uint64_t word) {
-    key free = free_key(c, use);
+/* The word of a use, or null. */
+static uint64_t *find_word(cell *c, uint32_t use) {
+    key found = find_key(c, use);
+    return is_used(found) ? found.word : 0;
+}
+
+static uint64_t *fill_key(cell *c, key free, uint32_t use, uint64_t word) {
     c->used++;
     *free.use = use;
     *free.word = word;
     return free.word;
+}
+
+static uint64_t *insert_key(cell *c, uint32_t use, uint64_t word) {
+    return fill_key(c, find_key(c, use), use, word);
+}
+
+static void insert_keys_of(cell *c, const key_line *line) {
+    for (int k = 0; k < KEYS_OF_LINE && line->uses[k]; k++) insert_key(c, line->uses[k], line->words[k]);
 }
 
 /* Gives the cell a table, or one of twice the size. */
@@ -173,8 +192,8 @@ static int grow_keys(cell *c) {
     grown.words[1] = (sizeof(key_line) << (log - 1)) - sizeof(key_line);
     grown.log_lines = log;
     grown.used = 0;
-    for (int k = 0, count = key_count(c); k < count; k++)
-        if (*key_at(c, k).use) insert_key(&grown, *key_at(c, k).use, *key_at(c, k).word);
+    for (int k = 0; !c->log_lines && k < KEYS; k++) insert_key(&grown, c->uses[k], c->words[k]);
+    for (int n = 0; n < lines_of(c); n++) insert_keys_of(&grown, (key_line *)c->words[0] + n);
     free_table(c);
     *c = grown;
     return 1;
@@ -182,7 +201,7 @@ static int grow_keys(cell *c) {
 
 /* A fifth of a table stays free. */
 static int is_full(const cell *c) {
-    return c->used >= (c->log_lines ? (KEYS_OF_LINE - 1) << (c->log_lines - 1) : KEYS);
+    return c->used >= (c->log_lines ? (KEYS_OF_LINE - 1) * lines_of(c) : KEYS);
 }
 static int has_free_key(cell *c) { return !is_full(c) || grow_keys(c); }
 
@@ -216,7 +235,8 @@ static uint64_t address_in_page(uint64_t address, unsigned k) {
 
 /* Its cell in a page that may be null; or null. */
 static cell *cell_in(cell_page *page, uint64_t address) {
-    cell *cells = page ? *cells_at(address) ? *cells_at(address) : make_cells(page, address) : 0;
+    cell *cells = page ? *cells_at(address) : 0;
+    if (page && !cells) cells = make_cells(page, address);
     return cells ? &cells[number_in_page(address)] : 0;
 }
 
@@ -290,10 +310,11 @@ static int replace_key(cell *c, uint64_t address, uint32_t use, uint64_t word) {
 }
 
 /* The owner's first use of this kind, in this phase or since it was forgotten. Is it held back? */
-static int hold_new(cell *c, uint64_t address, uint32_t use, uint64_t word) {
+static int hold_new(cell *c, uint64_t address, key free, uint32_t use, uint64_t word) {
     word = c->is_first ? word_after(0, word) : NO_POSITION;
-    if (!has_free_key(c)) return replace_key(c, address, use, word) && c->is_first;
-    insert_key(c, use, word);
+    if (!is_full(c)) fill_key(c, free, use, word);
+    else if (grow_keys(c)) insert_key(c, use, word);
+    else return replace_key(c, address, use, word) && c->is_first;
     return c->is_first;
 }
 
@@ -302,29 +323,27 @@ static int hold_new(cell *c, uint64_t address, uint32_t use, uint64_t word) {
 static int hold_in_cell(cell *c, uint64_t address, cell_use use, uint64_t word) {
     if (!is_read(use.what)) c->is_only_read = 0;
     uint32_t number = word ? number_of_use(use) : 0;
-    uint64_t *held = number ? find_word(c, number) : 0;
-    if (held && is_right_behind(*held, word)) return IS_HELD_ALREADY;
-    if (held) *held = word_after(*held, word);
-    return held || (number && hold_new(c, address, number, word));
-}
-
-/* A use that comes for the first time in a first phase, which may begin with it. */
-static uint64_t *add_use(cell *c, uint64_t address, uint32_t serial, uint16_t number, uint32_t use) {
-    cell_page *page = page_at(address, 0);
-    if (!c->owner && !is_freed(page, address)) {
-        begin_phase(page, c, address, serial, number);
-        c->is_only_read = 1;
-    }
-    if (c->owner != serial || !c->is_first || is_full(c)) return 0;
-    if (!is_read(cell_uses[use].what)) c->is_only_read = 0;
-    return insert_key(c, use, 0);
+    if (!number) return 0;
+    key found = find_key(c, number);
+    if (!is_used(found)) return hold_new(c, address, found, number, word);
+    if (is_right_behind(*found.word, word)) return IS_HELD_ALREADY;
+    *found.word = word_after(*found.word, word);
+    return IS_HELD;
 }
 
 uint64_t *word_of_use(cell *c, uint64_t address, uint32_t serial, uint16_t number, cell_use use) {
     uint32_t slot = slot_of_use(use.what, use.from);
     if (!is_same(cell_uses[slot], use)) return 0;
-    uint64_t *word = c->owner == serial || c->owner == READERS ? find_word(c, slot) : 0;
-    return word ? word : add_use(c, address, serial, number, slot);
+    cell_page *page = c->owner ? 0 : page_at(address, 0);
+    if (!c->owner && !is_freed(page, address)) {
+        begin_phase(page, c, address, serial, number);
+        c->is_only_read = 1;
+    }
+    key found = c->owner == serial || c->owner == READERS ? find_key(c, slot) : (key){0};
+    if (is_used(found)) return found.word;
+    if (c->owner != serial || !c->is_first || is_full(c)) return 0;
+    c->is_only_read &= is_read(use.what);
+    return fill_key(c, found, slot, 0);
 }
 
 /* ---- phases of several readers ---- */

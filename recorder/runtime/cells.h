@@ -162,13 +162,4 @@ static inline uint64_t *find_near(cell *c, uint32_t use) {
         if (c->uses[k] == use) return &c->words[k];
     return 0;
 }
-
-/* The word of a use, or null. */
-static inline uint64_t *find_word(cell *c, uint32_t use) {
-    uint64_t *word = find_near(c, use);
-    if (word || !c->log_lines) return word;
-    for (key_line *line = line_of_use(c, use); !word && line->uses[KEYS_OF_LINE - 1];)
-        word = find_in_line(line = next_line(c, line), use);
-    return word;
-}
 #pragma GCC visibility pop

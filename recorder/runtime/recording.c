@@ -159,21 +159,26 @@ static int has_room(uint64_t count) {
     return end <= most_records && end <= atomic_load_explicit(&room, memory_order_relaxed);
 }
 
-/* While a thread works: afterwards there is room for so many records, or it returns 0. */
-static int make_room(uint64_t count) {
+static void grow_by(uint64_t count) {
     while (recording && !has_room(count)) {
         if (written + count > most_records) stop_recording("SHB_RECORDS is reached");
         else grow();
     }
+}
+
+/* While a thread works: afterwards there is room for so many records, or it returns 0. */
+static int make_room(uint64_t count) {
+    if (!has_room(count)) grow_by(count);
     return recording;
 }
 
 /* Those of the functions that the thread is in that the record hasn't. */
 static void add_contexts(thread *t) {
-    uint32_t depth = t->in->depth, d = depth;
-    while (d && context_at(t, d)->number == NOT_RECORDED) d--;
+    const context *outer = t->in;
+    while (outer->number == NOT_RECORDED) outer = outer->outer;
+    uint32_t d = outer->depth, depth = t->in->depth;
     if (d == depth || !make_room(4 * (depth - d) + 1)) return;
-    tell_context(t, context_at(t, d), 0);
+    tell_context(t, outer, 0);
     for (; d < depth; d++) {
         context *c = t->frames[d].in;
         uint64_t place = place_of_frame(t, d);

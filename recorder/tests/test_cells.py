@@ -247,8 +247,8 @@ FAULTS = {  # to plant: the file, what stands there, and what in its place
                                        "int is_first = 1;"),
     "the last use of a phase isn't recorded": ("cells.c", "    put_all_held(c, address);\n    "
                                                           "free_table(c);\n", "    free_table(c);\n"),
-    "the position is that of the first use": ("cells.c", "    if (held) *held = word_after(*held, word);\n",
-                                              ""),
+    "the position is that of the first use": (
+        "cells.c", "    *found.word = word_after(*found.word, word);\n", ""),
     "the position is where it is recorded": ("hold_back.c", "{word & (IS_REPEATED | POSITIONS), ",
                                              "{written << ORDER_BITS | 1, "),
     "bytes of a cell are one use": (
@@ -304,10 +304,11 @@ FAULTS = {  # to plant: the file, what stands there, and what in its place
                                                                    "64] = 0;"),
     "a use is new in a quick hook of a later phase": ("cells.c", "!c->is_first || is_full(c)) return 0;",
                                                       "is_full(c)) return 0;"),
-    "a write in a quick hook leaves a phase of reads": ("cells.c", "    if (!is_read(cell_uses[use].what)) "
-                                                                   "c->is_only_read = 0;\n", ""),
-    "a quick hook takes another thread's cell": ("cells.c", "if (c->owner != serial || !c->is_first",
-                                                 "if (!c->is_first"),
+    "a write in a quick hook leaves a phase of reads": ("cells.c", "    c->is_only_read &= "
+                                                                   "is_read(use.what);\n", ""),
+    "a quick hook takes another thread's cell": (
+        "cells.c", "c->owner == serial || c->owner == READERS ? find_key(c, slot) : (key){0};",
+        "find_key(c, slot);"),
     "a range that is repeated keeps its first position": ("cells.c", "k < count; k++) *words[k] = word_after",
                                                           "k < 0; k++) *words[k] = word_after"),
     "a range is repeated in cells that another thread has": (
@@ -317,13 +318,12 @@ FAULTS = {  # to plant: the file, what stands there, and what in its place
     "a range is counted once more than it was held back": (
         "cells.c", "    if (count && is_right_behind(*words[0], word)) return IS_HELD_ALREADY;\n", ""),
     "a table grows without its keys": (
-        "cells.c", "        if (*key_at(c, k).use) insert_key(&grown, *key_at(c, k).use, *key_at(c, "
-                   "k).word);\n", "        ;\n"),
+        "cells.c", "insert_keys_of(&grown, (key_line *)c->words[0] + n);\n", ";\n"),
     "the context is that of the first use": (
-        "cells.c", "*held = word_after(*held, word)", "*held = (*held & ~POSITIONS) | (word & POSITIONS) | "
-                                                      "IS_REPEATED"),
-    "a position serves once more behind others": ("cells.c", "held && is_right_behind(*held, word)",
-                                                  "held && *held"),
+        "cells.c", "*found.word = word_after(*found.word, word)",
+        "*found.word = (*found.word & ~POSITIONS) | (word & POSITIONS) | IS_REPEATED"),
+    "a position serves once more behind others": ("cells.c", "is_right_behind(*found.word, word)",
+                                                  "*found.word"),
     "each use is repeated": ("cells.h", "? word : word & ~IS_REPEATED;", "? word : word;"),
     "no use is repeated": ("cells.h", "? word : word & ~IS_REPEATED;", "? word & ~IS_REPEATED : word & "
                            "~IS_REPEATED;"),
