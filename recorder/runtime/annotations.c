@@ -46,8 +46,6 @@ PUBLIC int __tsan_java_mutex_unlock_rec(void *, unsigned) __attribute__((alias("
 
 /* ---- fibers: a switch gives what was done before, and the switch to the same fiber takes it ---- */
 enum { NO_ORDER = 1 };
-void *__libc_malloc(size_t);
-void __libc_free(void *);
 typedef struct { frame *frames; uint32_t depth; } fiber;     /* its functions while no thread runs it */
 static __thread fiber *running, first_fiber;
 PUBLIC void *__tsan_get_current_fiber(void) { return running ? running : &first_fiber; }

@@ -23,11 +23,9 @@
 
    What is lost? Nothing that a race or its place needs:
      - of accesses that are the same (thread, kind, place with the calls that tell its location, bytes) and
-       have no
-       conflicting one of another thread between them, the first and the last stand for all;
+       have no conflicting one of another thread between them, the first and the last stand for all;
      - in the first phase of a variable, when no other thread had used it yet, the last alone does: each race
-       of an
-       earlier one with what comes after has the same place as one of the last;
+       of an earlier one with what comes after has the same place as one of the last;
      - a variable that one thread alone uses has no race.
    Accesses of several threads in one phase are reads, so what conflicts stands between two phases.
 
@@ -119,8 +117,7 @@ static void *out_of_memory(void) {
 typedef struct { uint32_t *use; uint64_t *word; } key;
 
 static key key_in(key_line *line, int k) { return (key){&line->uses[k], &line->words[k]}; }
-static int lines_of(const cell *c) { return c->log_lines ? 1 << (c->log_lines - 1) : 0; }
-static int key_count(const cell *c) { return c->log_lines ? KEYS_OF_LINE * lines_of(c) : KEYS; }
+static int key_count(const cell *c) { return c->log_lines ? KEYS_OF_LINE << (c->log_lines - 1) : KEYS; }
 static key key_at(cell *c, int k) {
     return c->log_lines ? key_in((key_line *)c->words[0] + k / KEYS_OF_LINE, k % KEYS_OF_LINE)
         : (key){&c->uses[k], &c->words[k]};
@@ -133,8 +130,7 @@ static key_line *new_table(int log) {
     key_line *table = free_tables[log];
     if (table) {
         free_tables[log] = (key_line *)table->words[0];
-        for (key_line *line = table; line < table + (1 << (log - 1)); line++)
-            for (int k = 0; k < KEYS_OF_LINE; k++) line->uses[k] = 0;
+        for (int n = 0; n < 1 << (log - 1); n++) table[n] = (key_line){0};
         return table;
     }
     table = memory_of_keys >= bytes ? memory_from(&key_pool, bytes) : 0;
@@ -154,6 +150,7 @@ static void free_table(cell *c) {
 static inline key find_key(cell *c, uint32_t use) {
     if (c->log_lines)
         for (key_line *line = line_of_use(c, use);; line = next_line(c, line))
+#pragma GCC unroll 5
             for (int k = 0; k < KEYS_OF_LINE; k++)
                 if (line->uses[k] == use || !line->uses[k]) return key_in(line, k);
     for (int k = 0; k < KEYS; k++)
@@ -178,10 +175,6 @@ static uint64_t *insert_key(cell *c, uint32_t use, uint64_t word) {
     return fill_key(c, find_key(c, use), use, word);
 }
 
-static void insert_keys_of(cell *c, const key_line *line) {
-    for (int k = 0; k < KEYS_OF_LINE && line->uses[k]; k++) insert_key(c, line->uses[k], line->words[k]);
-}
-
 /* Gives the cell a table, or one of twice the size. */
 static int grow_keys(cell *c) {
     int log = c->log_lines + 1;
@@ -192,8 +185,10 @@ static int grow_keys(cell *c) {
     grown.words[1] = (sizeof(key_line) << (log - 1)) - sizeof(key_line);
     grown.log_lines = log;
     grown.used = 0;
-    for (int k = 0; !c->log_lines && k < KEYS; k++) insert_key(&grown, c->uses[k], c->words[k]);
-    for (int n = 0; n < lines_of(c); n++) insert_keys_of(&grown, (key_line *)c->words[0] + n);
+    for (int k = 0, count = key_count(c); k < count; k++) {
+        key old = key_at(c, k);
+        if (*old.use) insert_key(&grown, *old.use, *old.word);
+    }
     free_table(c);
     *c = grown;
     return 1;
@@ -201,7 +196,7 @@ static int grow_keys(cell *c) {
 
 /* A fifth of a table stays free. */
 static int is_full(const cell *c) {
-    return c->used >= (c->log_lines ? (KEYS_OF_LINE - 1) * lines_of(c) : KEYS);
+    return c->used >= (c->log_lines ? (KEYS_OF_LINE - 1) << (c->log_lines - 1) : KEYS);
 }
 static int has_free_key(cell *c) { return !is_full(c) || grow_keys(c); }
 

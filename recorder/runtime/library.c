@@ -161,12 +161,10 @@ AFTER(void *, memmem, (const void *p, size_t n, const void *q, size_t m), (p, n,
 BEFORE(void *, mempcpy, (void *to, const void *from, size_t n), (to, from, n), READS(from, n), WRITES(to, n))
 BEFORE(void, bzero, (void *p, size_t n), (p, n), WRITES(p, n))
 
-BEFORE(void *, __memcpy_chk, (void *to, const void *from, size_t n, size_t room), (to, from, n, room),
-       READS(from, n), WRITES(to, n))
-BEFORE(void *, __memmove_chk, (void *to, const void *from, size_t n, size_t room), (to, from, n, room),
-       READS(from, n), WRITES(to, n))
-BEFORE(void *, __mempcpy_chk, (void *to, const void *from, size_t n, size_t room), (to, from, n, room),
-       READS(from, n), WRITES(to, n))
+#define COPIES_BYTES(name) \
+    BEFORE(void *, name, (void *to, const void *from, size_t n, size_t room), (to, from, n, room), \
+           READS(from, n), WRITES(to, n))
+COPIES_BYTES(__memcpy_chk) COPIES_BYTES(__memmove_chk) COPIES_BYTES(__mempcpy_chk)
 BEFORE(void *, __memset_chk, (void *to, int c, size_t n, size_t room), (to, c, n, room), WRITES(to, n))
 
 /* Elements are moved between calls of a function that may give up the turn: so from the beginning on they are

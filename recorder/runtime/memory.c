@@ -2,9 +2,7 @@
 #include "runtime.h"
 #include <dlfcn.h>
 
-void *__libc_malloc(size_t), *__libc_calloc(size_t, size_t), *__libc_realloc(void *, size_t);
-void *__libc_memalign(size_t, size_t);
-void __libc_free(void *);
+void *__libc_calloc(size_t, size_t), *__libc_realloc(void *, size_t), *__libc_memalign(size_t, size_t);
 
 /* ---- a new block is new variables; a free is a write. A thread may have slept in the call before; one that
    code without hooks calls may have a lock that nobody sees, so there the turn isn't given up ---- */

@@ -159,16 +159,12 @@ static int has_room(uint64_t count) {
     return end <= most_records && end <= atomic_load_explicit(&room, memory_order_relaxed);
 }
 
-static void grow_by(uint64_t count) {
+/* While a thread works: afterwards there is room for so many records, or it returns 0. */
+static int make_room(uint64_t count) {
     while (recording && !has_room(count)) {
         if (written + count > most_records) stop_recording("SHB_RECORDS is reached");
         else grow();
     }
-}
-
-/* While a thread works: afterwards there is room for so many records, or it returns 0. */
-static int make_room(uint64_t count) {
-    if (!has_room(count)) grow_by(count);
     return recording;
 }
 
@@ -196,18 +192,13 @@ int begin_work(thread *t) {
     return recording;
 }
 
-static int is_same_read(const struct read *one, const struct read *other) {
-    return one->r.where == other->r.where && one->r.what == other->r.what && one->changes == other->changes
-        && one->context == other->context;
-}
-
 /* Is it a read that the thread made before, with nothing but reads of any thread in between?  Then it got the
    same value, by the same order. Where there are cells most such reads are held back. */
 static int is_repeated(thread *t, struct record r) {
-    const struct read now = {r, changes, t->in};
-    for (int i = 0; i < RECENT_READS; i++)
-        if (is_same_read(&t->recent[i], &now)) return 1;
-    t->recent[t->next_recent++ % RECENT_READS] = now;
+    for (const struct read *one = t->recent; one < t->recent + RECENT_READS; one++)
+        if (one->r.where == r.where && one->r.what == r.what && one->changes == changes
+            && one->context == t->in) return 1;
+    t->recent[t->next_recent++ % RECENT_READS] = (struct read){r, changes, t->in};
     return 0;
 }
 

@@ -16,6 +16,10 @@
 #include <unistd.h>
 #include "../record.h"
 
+/* the C library's own */
+void *__libc_malloc(size_t);
+void __libc_free(void *);
+
 #pragma GCC visibility push(hidden)
 #define PUBLIC __attribute__((visibility("default")))
 #define CALLER ((uint64_t)__builtin_return_address(0))

@@ -12,13 +12,14 @@ static char readers, writers;
         note(OP_WAIT, &writers, CALLER); \
     }
 #define ENDS_READING(name) GIVES_BY(void, name, OP_POST, &readers, 0, DONE(REAL(name)()), (void))
-#define WAITS_FOR_READERS(name) \
+#define GIVES_AND_TAKES(name, given, before, taken) \
     PUBLIC void name(void) { \
-        note(OP_POST, &writers, CALLER); \
-        let_others_run(); \
+        note(OP_POST, given, CALLER); \
+        before; \
         REAL(name)(); \
-        note(OP_WAIT, &readers, CALLER); \
+        note(OP_WAIT, taken, CALLER); \
     }
+#define WAITS_FOR_READERS(name) GIVES_AND_TAKES(name, &writers, let_others_run(), &readers)
 /* The thread that calls the function waits for readers before. It may begin here. */
 #define CALLS_LATER(name) \
     PUBLIC void name(void *head, void (*function)(void *)) { \
@@ -39,14 +40,8 @@ FLAVOUR_WITH_SECTIONS(signal)
 FLAVOUR_WITH_SECTIONS(bp)
 
 /* A thread reads always, but in these moments. */
-#define IS_QUIET(name) \
-    PUBLIC void name(void) { \
-        note(OP_POST, &readers, CALLER); \
-        REAL(name)(); \
-        note(OP_WAIT, &writers, CALLER); \
-    }
 FLAVOUR(qsbr)
-IS_QUIET(urcu_qsbr_quiescent_state)
+GIVES_AND_TAKES(urcu_qsbr_quiescent_state, &readers, , &writers)
 ENDS_READING(urcu_qsbr_thread_offline)
 BEGINS_READING(urcu_qsbr_thread_online)
 BEGINS_READING(urcu_qsbr_register_thread)

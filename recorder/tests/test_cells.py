@@ -318,7 +318,7 @@ FAULTS = {  # to plant: the file, what stands there, and what in its place
     "a range is counted once more than it was held back": (
         "cells.c", "    if (count && is_right_behind(*words[0], word)) return IS_HELD_ALREADY;\n", ""),
     "a table grows without its keys": (
-        "cells.c", "insert_keys_of(&grown, (key_line *)c->words[0] + n);\n", ";\n"),
+        "cells.c", "        if (*old.use) insert_key(&grown, *old.use, *old.word);\n", ""),
     "the context is that of the first use": (
         "cells.c", "*found.word = word_after(*found.word, word)",
         "*found.word = (*found.word & ~POSITIONS) | (word & POSITIONS) | IS_REPEATED"),
