@@ -11,9 +11,10 @@ import re
 
 import program
 import shb
-from viewing import EXAMPLES, MADE, asked, made, recorded_run, run_here, windows
+from viewing import EXAMPLES, MADE, QUIET, asked, made, recorded_run, run_here, windows
 
 from shb_view import command, names, picture
+from shb_view.view import view_of_run
 
 VOID = {"br", "meta"}
 HOSTILE = [b"<script>alert(1)</script>", b'"><img src=x onerror=alert(1)>', b"' onload='alert(1)",
@@ -120,9 +121,10 @@ class Pages(program.Case):
         self.assertEqual([event[:2] + event[4:] for event in group["picture"]["events"]][1:3], [
             [2, 1, "starts worker", "start.c:5 · 2", "line 2: main|fork(worker)|start.c:5\nno lock held"],
             [3, 0, "reads config", "worker.c:2 · 3", "line 3: worker|r(config)|worker.c:2\nno lock held"]])
-        [group] = self.page(b"\n\r\nA|w(x)\n\nB|w(x)\n").data()["groups"]
-        self.assertEqual([event[6].splitlines()[0] for event in group["picture"]["events"]],
-                         ["line 3: A|w(x)", "line 5: B|w(x)"])
+        for empty, second in ((b"\n", "5"), (200_000 * b"\n", "200004")):
+            [group] = self.page(b"\n\r\nA|w(x)\n" + empty + b"B|w(x)\n").data()["groups"]
+            self.assertEqual([event[6].splitlines()[0] for event in group["picture"]["events"]],
+                             ["line 3: A|w(x)", f"line {second}: B|w(x)"])
 
     def test_known_groups_are_folded_behind_the_others(self):
         only = {(b"main.c:11", b"queue.c:22"): {b"items"}}
@@ -245,6 +247,26 @@ class Pages(program.Case):
             command.explain(command.show_run, recorded_run(trace, uses, stacks), asked(shb), path,
                             io.TextIOWrapper(io.BytesIO(), "utf-8"))
         return Page(path.read_text(encoding="utf-8")), said.getvalue()
+
+    def test_what_comes_before_in_a_part_of_the_run(self):
+        """What the page's trace has of other parts isn't shown, but it tells that a thread had begun."""
+        lines = ["main|fork(A)|f.c:1", "main|fork(B)|f.c:2", "B|w(y)|f.c:3",
+                 "B|acq(m)|f.c:4", "B|w(x)|f.c:5", "B|rel(m)|f.c:6", "A|w(x)|f.c:7",
+                 "A|acq(m)|f.c:8", "A|w(z)|f.c:9", "A|rel(m)|f.c:10", "B|w(z)|f.c:11"]
+        uses = [f"event\t{number}\t{number}" for number in range(1, 12)] + ["part\t4", "part\t8"]
+        for location, thread, name in ((5, "B", "x"), (7, "A", "x"), (9, "A", "z"), (11, "B", "z")):
+            uses.append(f"use\tw\t{name}\t\tf.c:{location}\tby\t1\t{thread}\tbare\t1\t0")
+        trace = self.file("".join(f"{line}\n" for line in lines).encode(), "page.std")
+        its = self.file("".join(f"{line}\n" for line in ["shb-uses 2", *uses, "events\t11"]).encode(), "uses")
+        stacks = self.file(b"shb-stacks 1 %020d\n" % 11 + bytes(44), "stacks")
+        found = view_of_run(recorded_run(trace, its, stacks), asked(), QUIET)
+        shown = {section.window.accesses: (section.window.before, section.window.edges,
+                                           picture.picture(section.window, found.kinds)["gaps"])
+                 for section in found.sections}
+        self.assertEqual(shown, {(5, 7): ([1, 4], [(1, 7)], [0, 1, 0, 0]), (9, 11): ([8], [], [1, 0, 1])})
+        locks = {section.window.accesses: section.window.events[section.window.accesses[0]].locks
+                 for section in found.sections}
+        self.assertEqual(locks, {(5, 7): ((b"m", 4),), (9, 11): ((b"m", 8),)})
 
     def judged(self, script):
         """The same if `shb check` is this script."""

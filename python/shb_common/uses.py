@@ -11,8 +11,8 @@ from shb_common.words import printable
 BEGIN = b"shb-uses 2\n"
 OTHER = "is of another version of shb: its first line isn't `shb-uses 2`"
 WORDS = b"r", b"w", b"a", b"f"
-# what each kind is of
-SUMS = {b"by": bytes, b"under": bytes, b"reading": bytes, b"bare": int, b"held": int, b"many": int}
+OF_STACKS = b"bare", b"held", b"many"
+KINDS = {b"by", b"under", b"reading", *OF_STACKS}
 
 # The accesses of a variable at a location in one way: `word` is r, w, a (written atomically) or f (freed);
 # `local` the local that a variable on a stack was then, or nothing. Each of `sums` is a kind, a count, and a
@@ -48,11 +48,12 @@ class Uses:
         kind = fields[0]
         if kind == b"use":
             word, variable, local, location, *sums = fields[1:]
-            counts = sums[1::3]
-            if word not in WORDS or len(sums) % 3 or counts and not b"".join(counts).isdigit():
+            kinds, counts = sums[::3], sums[1::3]
+            if (word not in WORDS or len(sums) % 3 or not KINDS.issuperset(kinds)
+                or counts and not b"".join(counts).isdigit()):
                 raise ValueError
-            its = zip(sums[::3], map(int, counts), sums[2::3])
-            its = [(kind, count, SUMS[kind](of)) for kind, count, of in its]
+            its = [(kind, count, int(of) if kind in OF_STACKS else of)
+                   for kind, count, of in zip(kinds, map(int, counts), sums[2::3])]
             self.uses.append(Use(word, variable, local, location, its))
         elif kind == b"event":
             in_page, in_run = map(whole, fields[1:])

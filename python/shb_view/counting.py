@@ -1,9 +1,11 @@
 """The first pass over a trace: how often each line accesses the racing variables, in which threads and under
 which locks; and for the accesses that may be shown, the events right before them."""
 
+import array
+import bisect
 import collections
 
-from shb_common.uses import SUMS
+from shb_common.uses import OF_STACKS
 from shb_common.variables import without_end
 from shb_common.words import Refused
 from shb_view.facts import Sites, sites_in
@@ -98,7 +100,8 @@ class Counting:
         self.callers = collections.defaultdict(collections.Counter)
         self.sights = uses.sights if uses else ()
         self.seen = set()  # where races write and then read that, as pairs
-        self.joined = {}  # by a join its thread's last event
+        self.last, self.joined = {}, {}  # by thread its last event of this part; by a join its thread's
+        self.ended = collections.defaultdict(lambda: array.array("Q"))  # by thread: its last ones of parts
         self.lockers = collections.defaultdict(set)  # by lock: the threads that use it
         self.begins, self.ends = {}, {}  # by thread: where it is created and joined, as `Step`
         # `alike`: by kind of access its last event
@@ -116,28 +119,42 @@ class Counting:
 
     def take_all(self, trace):
         groups = {word + name + b")": group for name, group in self.groups.items() for word in (b"r(", b"w(")}
-        held, recent, operations, parts = self.held, self.recent, self.operations, trace.parts
+        held, recent, last, operations = self.held, self.recent, self.last, self.operations
+        parts, near = trace.parts, trace.parts_of(self.wanted)  # those with an access that is noted
+        is_near = 1 in near
         for number, thread, operation, line in trace.events("counting accesses"):
             if number in parts:
+                is_near = number in near
                 self.begin_part()
             if operation[1] != OPENS:
                 lock = operations[operation]
                 if lock:
-                    held[thread].take(*lock, number)
+                    if is_near:
+                        held[thread].take(*lock, number)
                     self.lockers[lock[1]].add(thread)
                 elif operation.startswith(b"fork("):
                     self.begins[operation[5:-1]] = Step(thread, number, line)
-                elif operation.startswith(b"join(") and recent.get(operation[5:-1]):
-                    self.joined[number] = recent[operation[5:-1]][-1]
+                elif operation.startswith(b"join(") and operation[5:-1] in last:
+                    self.joined[number] = last[operation[5:-1]]
                     self.ends[operation[5:-1]] = Step(thread, number, line)
             elif operation in groups:
                 self.access(number, thread, operation, without_end(line), groups[operation])
-            recent[thread].append(number)
+            if is_near:
+                recent[thread].append(number)
+            last[thread] = number
 
     def begin_part(self):
         """What came right before isn't known."""
-        for of_part in (self.recent, self.before, self.writes):
+        for thread, event in self.last.items():
+            self.ended[thread].append(event)
+        for of_part in (self.held, self.recent, self.last, self.before, self.writes):
             of_part.clear()
+
+    def last_before(self, part, thread):
+        """The last event of a thread before a part, or 0."""
+        ended = self.ended[thread]
+        at = bisect.bisect_left(ended, part)
+        return ended[at - 1] if at else 0
 
     def access(self, number, thread, operation, line, group):
         word, variable, location = operation[:1], operation[2:-1], line[len(thread) + len(operation) + 2:]
@@ -207,7 +224,7 @@ class Counting:
             if group is None or kinds.locals.get(variable, local) != local and variable.startswith(b"stack."):
                 continue
             for kind, count, stack in sums:
-                if SUMS[kind] is int:
+                if kind in OF_STACKS:
                     self.callers[variable, location][stack, kind == b"bare"] += count
             if word != b"f":
                 self.used[group].at(variable, location).add(word, sums, kinds.locks)

@@ -3,6 +3,7 @@ holds for the trace and for each variable of the listed races, and names no faul
 group's."""
 
 import collections
+import copy
 import functools
 import re
 
@@ -79,12 +80,12 @@ class Site:
     def add(self, word, sums, locals):
         """Takes accesses, as `uses.Use` has them; `locals` names locks on stacks."""
         for kind, count, name in sums:
-            if kind == b"by":
+            if kind == b"under":
+                self.locks[locals.get(name, name)] += count
+            elif kind == b"by":
                 self.accesses[word] += count
                 self.threads[name] += count
                 self.writers.update([name] * (word != b"r"))
-            elif kind == b"under":
-                self.locks[locals.get(name, name)] += count
             elif kind == b"reading":
                 lock = locals.get(name, name)
                 self.reading[lock] += count
@@ -99,19 +100,11 @@ class Site:
         self.writers |= other.writers
         self.bare += other.bare
         self.unknown += other.unknown
-        add_counts(self.accesses, other.accesses)
-        add_counts(self.threads, other.threads)
-        add_counts(self.locks, other.locks, names)
-        add_counts(self.reading, other.reading, names)
-        add_counts(self.wrong, other.wrong, names)
-
-
-def add_counts(mine, others, names={}):
-    if mine or names:
-        for key, count in others.items():
-            mine[names.get(key, key)] += count
-    else:
-        mine.update(others)
+        for mine, others in ((self.accesses, other.accesses), (self.threads, other.threads),
+                             (self.locks, other.locks), (self.reading, other.reading),
+                             (self.wrong, other.wrong)):
+            for key, count in others.items():
+                mine[names.get(key, key)] += count
 
 
 class Fact(collections.namedtuple("Fact", "form said tag sentences remedy lock handed",
@@ -209,15 +202,10 @@ class Locks:
 
     def __init__(self, uses, private):
         """`private` are locks on stacks that one thread alone uses: none of these is told."""
-        held, self.own, self.private = collections.defaultdict(int), {}, private
-        for variable, sites in uses.variables.items():
-            for site in sites.values():
-                for locks in (site.locks, site.reading):
-                    for lock, count in locks.items():
-                        held[variable, lock] += count
-        self.held = list(held)
-        are_several = len(uses.variables) > 1
-        for variable, lock in sorted(held, key=lambda it: (-held[it], it)) if are_several else ():
+        self.own, self.private = {}, private
+        self.held = {variable: held_at(sites.values()) for variable, sites in uses.variables.items()}
+        held = [(-count, name, lock) for name, its in self.held.items() for lock, count in its.items()]
+        for _, variable, lock in sorted(held) if len(self.held) > 1 else ():
             self.own.setdefault(alike(lock), {}).setdefault(variable, lock)
         self.named = collections.defaultdict(dict)  # by variable: its own locks, with their names
         for name, own in self.own.items():
@@ -228,19 +216,27 @@ class Locks:
         """By variable: the lock of this name."""
         if isinstance(name, Own):
             return self.own[name]
-        return {variable: lock for variable, lock in self.held if lock == name}
+        return {variable: name for variable, its in self.held.items() if name in its}
+
+
+def held_at(sites):
+    """How many accesses hold each lock, for reading or not."""
+    found = collections.defaultdict(int)
+    for site in sites:
+        for locks in (site.locks, site.reading):
+            for lock, count in locks.items():
+                found[lock] += count
+    return found
 
 
 def sites_of(group, uses, private):
     """The lines that use a group's variables: racing ones first, then those that write, then by how often;
     and their locks."""
-    sites, racing, locks = {}, group.locations(), Locks(uses, private)
+    racing, locks, at = group.locations(), Locks(uses, private), collections.defaultdict(list)
     for variable, its in (*uses.variables.items(), (b"", uses.frees)):
         for location, site in its.items():
-            if location not in sites:
-                sites[location] = Site(location)
-            sites[location].take(site, locks.named[variable])
-            sites[location].variables.add(variable)
+            at[location].append((variable, site))
+    sites = {location: as_one(its, locks.named) for location, its in at.items()}
     for pair in group.pairs:
         one, other = pair.locations
         for location, partner in {(one, other), (other, one)}:
@@ -252,6 +248,20 @@ def sites_of(group, uses, private):
     order = sorted(sites.values(), key=lambda site: (site.location is None, by_numbers(site.location or b"")))
     return (sorted(order, key=lambda site: (site.location not in racing, not site.writes(), -site.total())),
             locks)
+
+
+def as_one(its, named):
+    """The sites of several variables at a line as one; `named` has the locks that have other names there."""
+    variable, found = its[0]
+    if len(its) == 1 and not named[variable]:
+        found = copy.copy(found)  # with the same counts
+        found.partners, found.later = {}, set()
+    else:
+        found = Site(found.location)
+        for variable, site in its:
+            found.take(site, named[variable])
+    found.variables = {variable for variable, _ in its}
+    return found
 
 
 def fact_of(sites, locks, whole, published=()):

@@ -55,34 +55,45 @@ def warnings(path):
 
 
 class Trace:
-    """A trace's file, read from its beginning as often as is asked for. Before the events of `parts` some
-    may be missing."""
+    """A trace's file, read as often as is asked for. Before the events of `parts` some may be missing: with
+    each of them, as with the first event, a part begins, in which no lock is held before."""
 
     def __init__(self, file, progress, parts=()):
         self.file, self.progress, self.parts = file, progress, frozenset(parts)
+        self.begins = sorted({1, *parts})
         self.size = os.fstat(file.fileno()).st_size
-        self.marks = []  # of each batch: how many events, lines and bytes are before it
+        self.marks = [(0, 0, 0)]  # of each batch that was read: the events, lines and bytes before it
 
-    def batches(self, doing):
-        """The lines of events, some thousand at a time, each batch with the number of its first event."""
-        self.file.seek(0)
-        self.marks, events, rows, place = [], 0, 0, 0
+    def parts_of(self, events):
+        """The parts with some of these events: by where each begins the last of them."""
+        return {self.begins[bisect.bisect(self.begins, event) - 1]: event for event in sorted(events)}
+
+    def mark_of(self, event):
+        return self.marks[bisect.bisect_left(self.marks, (event, 0, 0)) - 1]
+
+    def batches(self, doing, first):
+        """The lines of events from one on that was read before, or the first, some thousand at a time; each
+        batch with the number of its first event."""
+        events, rows, place = self.mark_of(first)
+        self.file.seek(place)
         while True:
             lines = self.file.readlines(BATCH)
-            self.marks.append((events, rows, place))
+            if self.marks[-1][2] < place:
+                self.marks.append((events, rows, place))
             if not lines:
                 break
             rows, place = rows + len(lines), self.file.tell()
             if min(map(len, lines)) <= 2:
                 lines = [line for line in lines if without_end(line)]
-            yield events + 1, lines
+            before = max(first - 1 - events, 0)
+            yield events + before + 1, lines[before:]
             events += len(lines)
             self.progress.step(doing, place, self.size)
 
-    def events(self, doing):
-        """The number of each event, its thread, its operation, and its line with its end."""
-        for first, lines in self.batches(doing):
-            for number, line in enumerate(lines, first):
+    def events(self, doing, first=1):
+        """The number of each event from this one on, its thread, its operation, and its line with its end."""
+        for start, lines in self.batches(doing, first):
+            for number, line in enumerate(lines, start):
                 try:
                     thread, operation, _ = line.split(b"|", 2)
                 except ValueError:
@@ -95,11 +106,8 @@ class Trace:
 
     def find(self, events):
         """The lines of a few events, by event. All batches were read before."""
-        def batch_of(event):
-            return self.marks[bisect.bisect_left(self.marks, (event, 0, 0)) - 1]
-
         found = {}
-        for (before, rows, place), its in itertools.groupby(sorted(events), batch_of):
+        for (before, rows, place), its in itertools.groupby(sorted(events), self.mark_of):
             self.file.seek(place)
             lines = enumerate(map(without_end, self.file.readlines(BATCH)), rows + 1)
             of_events = [Found(row, line) for row, line in lines if line]

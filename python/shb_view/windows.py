@@ -2,7 +2,7 @@
 
 import collections
 
-from shb_view.held import Held, Operations
+from shb_view.held import Held
 from shb_view.trace import OPENS, event_of, line_of
 
 SOURCES = {b"acq": b"rel", b"r": b"w"}  # what an operation waits for or sees
@@ -25,25 +25,27 @@ Window = collections.namedtuple("Window", "race accesses before edges forks even
 class Moments:
     """Notes the wanted events, and of some operations the last one before each wanted event."""
 
-    def __init__(self, wanted, sources, locals):
-        """`sources` has for an event what it waits for or sees, `w(X)` or `rel(L)`; `locals` name locks."""
-        self.wanted, self.sources = wanted, sources
+    def __init__(self, wanted, sources, counting):
+        """`sources` has for an event what it waits for or sees, `w(X)` or `rel(L)`."""
+        self.wanted, self.sources, self.counting = wanted, sources, counting
         self.tracked = set(sources.values())
-        self.latest = {}  # of a tracked operation: its last event, its thread and its moment
         self.moments = {}
         self.found = {}  # by event: its source, where that is an event of another thread
-        self.held, self.operations = collections.defaultdict(Held), Operations(locals)  # by thread
-        self.last = {}  # by thread
 
     def read(self, trace):
-        wanted, tracked, last, parts = self.wanted, self.tracked, self.last, trace.parts
-        end = max(wanted, default=0)
-        for number, thread, operation, _ in trace.events("reading what comes before"):
-            if number in parts:
-                self.latest.clear()
+        for part, end in trace.parts_of(self.wanted).items():
+            self.read_part(trace, part, end)
+
+    def read_part(self, trace, part, end):
+        """Reads a part from its beginning to this event."""
+        self.part, self.last = part, {}  # by thread
+        self.latest = {}  # of a tracked operation: its last event, its thread and its moment
+        self.held = collections.defaultdict(Held)  # by thread
+        wanted, tracked, last, operations = self.wanted, self.tracked, self.last, self.counting.operations
+        for number, thread, operation, _ in trace.events("reading what comes before", part):
             if number in wanted or operation in tracked:
                 self.note(number, thread, operation)
-            lock = self.operations[operation] if operation[1] != OPENS else None
+            lock = operations[operation] if operation[1] != OPENS else None
             if lock:
                 self.held[thread].take(*lock, number)
             last[thread] = number
@@ -52,9 +54,10 @@ class Moments:
 
     def note(self, number, thread, operation):
         held = self.held[thread]
-        is_acquire, lock = operation[1] != OPENS and self.operations[operation] or (True, None)
+        is_acquire, lock = operation[1] != OPENS and self.counting.operations[operation] or (True, None)
         freed = lock if not is_acquire and held.is_last_release(lock) else None
-        moment = Moment(self.last.get(thread, 0), *held.newest(), freed)
+        previous = self.last.get(thread) or self.counting.last_before(self.part, thread)
+        moment = Moment(previous, *held.newest(), freed)
         if number in self.wanted:
             self.moments[number] = moment
             source, by, its_moment = self.latest.get(self.sources.get(number), (0, thread, None))
@@ -78,7 +81,7 @@ def make_windows(trace, races, counting, order):
     wanted = {*accesses, *before, *filter(None, forks.values()), *acquires, *joined.values()}
     sources = {number: b"%b(%b)" % (SOURCES[event.word], event.name)
                for number, event in events.items() if event.word in SOURCES}
-    moments = Moments(wanted, sources, counting.access_kinds.locks)
+    moments = Moments(wanted, sources, counting)
     moments.read(trace)
     moments.found.update(joined)
     found = trace.find(moments.moments)
