@@ -113,10 +113,6 @@ class Stacks:
         number = bisect.bisect(names, (event + 1,))
         return names[number - 1][1] if number else b""
 
-    def lasting(self, variable, event):
-        """What a variable is in any trace of the run, at all events: the member that one in a block is."""
-        return self.local_of(variable, 0)
-
     def stack(self, number):
         """The frames of a stack, the innermost first."""
         found = []

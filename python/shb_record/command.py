@@ -283,8 +283,8 @@ def conclude(look, rows, status):
     for line in dict.fromkeys([*look.counts(), *look.notes, *look.meaning()]):
         say(line)
     if len(look.runs) > 1:
-        interleavings = counted(look.interleavings(), "different interleaving")
-        say(f"{counted(len(look.runs), 'run')} gave {interleavings}")
+        orders = {tuple(sorted(orders)) for orders in look.runs}
+        say(f"{counted(len(look.runs), 'run')} gave {counted(len(orders), 'different interleaving')}")
     if look.again and look.options.runs > 1 and not look.options.replay:
         words = ["shb-record", "--replay", str(look.again), look.options.program, *look.options.arguments]
         say(f"the first run with such a place again: {shlex.join(words)}")

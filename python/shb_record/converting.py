@@ -106,14 +106,13 @@ class Conversion:
         self.trace, self.place_list, self.uses, self.stacks = (
             process.record.with_suffix(suffix) for suffix in (".std", ".places", ".uses", ".stacks"))
         strip = ["--strip", options.strip] if options.strip else []
-        self.left = process.record.with_suffix(".left")  # a segment's blocks at its end
         blocks = ["--blocks", process.blocks] if process.blocks else []
+        left = ["--left", process.record.with_suffix(".left")] if options.live else []  # blocks at its end
         self.window = options.window
         self.list_words = [CONVERTER, "--list", *strip, *blocks, process.record]
         self.page_words = [*strip, *blocks, "-n", str(options.window), process.record]
         self.words = [CONVERTER, "--list", "--only", "/dev/stdin", "--page", self.trace, "--uses", self.uses,
-                      "--stacks", self.stacks,
-                      *(["--left", self.left] if options.live else []), *self.page_words]
+                      "--stacks", self.stacks, *left, *self.page_words]
         # known at the end: how much there is, what is said of it, what makes it a part
         self.size, self.notes, self.cuts = "", [], []
         # `used` and `called` have what the files of a page's trace have

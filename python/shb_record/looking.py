@@ -119,9 +119,6 @@ class Look:
         if self.failed <= MOST_KEPT or not self.options.live:
             say(f"the record is kept: {self.results.keep(process.record, process.base + '.rec')}")
 
-    def interleavings(self):
-        return len({tuple(sorted(orders)) for orders in self.runs})
-
     def stale(self):
         """The lines of the known places that matched nothing, which is asked when all places were."""
         return self.places.given.stale() if self.runs and not self.has_failed else []

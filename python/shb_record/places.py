@@ -8,6 +8,7 @@ from shb_common.programs import pair_of
 from shb_common.variables import name_of
 
 NAMELESS = b"0x*"
+AT_ALL = 0, 0  # stands for two events: what a variable is there it is at all events, in any trace of the run
 
 # What of a place of a process nothing before had: the key of its two locations, the place, and of its new
 # variables the names in the trace and on the page.
@@ -115,9 +116,8 @@ def named(place, tables, numbers):
     """A place with its races by the names of their variables on the page; and these by those in the trace."""
     names, variables = {}, {}
     for raw, race in place.variables.items():
-        on_page = numbers.get(race.events)
-        local_of, events = (tables.local_of, on_page) if on_page else (tables.lasting, race.events)
-        names[raw] = name_of(race._replace(events=events), local_of)
+        on_page = race._replace(events=numbers.get(race.events, AT_ALL))
+        names[raw] = name_of(on_page, tables.local_of)
         variables.setdefault(names[raw], race)
     return place._replace(variables=variables), names
 

@@ -29,9 +29,8 @@ class Operations(dict):
     what is no acquire or release of a lock that the program has. `locals` has the names of locks on
     stacks."""
 
-    def __init__(self, locals=()):
-        super().__init__()
-        self.locals = locals or {}
+    def __init__(self, locals):
+        self.locals = locals
 
     def __missing__(self, operation):
         word, _, name = operation[:-1].partition(b"(")
