@@ -26,11 +26,10 @@ typedef struct {
     u64 caller, length;
     char *text;
     inlined_frame *frames;
-    u32 site;                          /* the same where the location is */
+    u32 site;                          /* the same where the location is, once it was asked for */
     uint8_t is_own, is_unseen;
 } place;
 static INTERNED(place) places;         /* by callers */
-static map sites;                      /* by locations */
 static place nowhere;                  /* of a caller that wasn't noted */
 
 static place *place_at(u32 number) { return number ? &places.at[number - 1] : &nowhere; }
@@ -502,7 +501,6 @@ static void find_place(place *p) {
     p->text = line_end(chosen ? chosen->location : address);
     free(address);
     p->length = strlen(p->text);
-    p->site = map_text(&sites, p->text);
     p->is_own = m && !is_recorder(m) && !(chosen ? chosen->in_system_file : in_system(m->path));
     const inlined_frame *last = outermost(p->frames);
     p->is_unseen = last && last->in_rust_library && !is_hooked(m, p->caller);
@@ -545,8 +543,8 @@ void find_places(void) {
     find_asked_places();
 }
 
-static const place *found_place(u64 caller) {
-    const place *p = place_at(caller_number(caller));
+static place *found_place(u64 caller) {
+    place *p = place_at(caller_number(caller));
     if (p->text) return p;
     ask_for_lines(module_at(caller));
     find_asked_places();
@@ -564,7 +562,13 @@ part line_end_of(u64 caller) {
     return (part){place.at - 2, place.length + 2};
 }
 
-u32 site_of(u64 caller) { return found_place(caller)->site; }
+/* Numbered as they are asked for, so what an option makes shb-std note besides doesn't change them. */
+u32 site_of(u64 caller) {
+    static map sites;                  /* by locations */
+    place *p = found_place(caller);
+    if (!p->site) p->site = map_text(&sites, p->text);
+    return p->site;
+}
 
 int is_unseen(u64 caller) { return has_unseen && found_place(caller)->is_unseen; }
 
