@@ -143,46 +143,58 @@ piece *only_piece(u64 i) {
 }
 
 /* ---- 4: events ---- */
+/* Whether each visit of a piece has events, in the order of the run: that for a page follows it. */
+static VECTOR(u64) visits;
+static u64 visit;                      /* the next one */
+
+static void note_visit(int has_events) {
+    if (visit % 64 == 0) *PUSH(visits) = 0;
+    visits.at[visit / 64] |= (u64)has_events << visit % 64;
+    visit++;
+}
+
+static int next_visit(void) {
+    u64 k = visit++;
+    return k / 64 < visits.count && (visits.at[k / 64] >> k % 64 & 1);
+}
+
+void begin_visits(void) { visit = 0; }
+
+static int only_reads(const use *u) { return !u->writes && !u->writes_atomically; }
+
+static u64 site_and_thread(const use *u) {
+    return u->site | (u64)u->thread << 32 | (u64)u->reads << 63;             /* an atomic one tells less */
+}
+
 /* The same read, by the same thread at the same place under the same locks, with no write of the variable
    since, and nothing since by which the thread could order another: all that it conflicts with, and all that
    it orders, the first does too. Behind the variable's last write it conflicts with nothing that comes, so
    locks and orders don't matter. A place is a location: of two reads in one line the second repeats the
    first. */
-enum { RECENT = 1 << 18 };
-typedef struct {
-    u64 site, epoch, locks;
-    u32 piece, writes;
-    /* its events in the trace, unless they are known to stand for others */
-    u32 from, end;
-} read;
-static read *recent;
-static u64 traces;                     /* begun so far */
-
-void begin_reads(void) {
-    if (!traces++) recent = mapped(RECENT, sizeof *recent);
-}
-
-/* *kept: the read that is compared with the next ones. */
-static int repeats(u64 i, const use *u, u32 number, read **kept) {
-    u32 t = u->thread;
+static int repeats(u64 i, const use *u, u32 number) {
+    enum { RECENT = 1 << 18 };
+    typedef struct { u64 site, epoch, locks; u32 piece, writes; } read;
+    static read *recent;
+    if (!recent) recent = zeroed(RECENT, sizeof *recent);
+    const thread_state *s = &threads[u->thread];
     const piece *p = piece_of(number);
-    u64 site = u->site | (u64)t << 32 | (u64)u->reads << 63; /* an atomic one tells less */
-    read this = {.site = site | traces << 52, .piece = number, .writes = p->writes};
+    read this = {.site = site_and_thread(u), .piece = number, .writes = p->writes};
     if (i < p->last_write) {
-        this.epoch = threads[t].epoch + 1;
-        this.locks = threads[t].locks;
+        this.epoch = s->epoch + 1;
+        this.locks = s->locks;
     }
-    u64 slot = (mix(site, 0) + number) & (RECENT - 1);       /* of each trace; neighbours are side by side */
-    read *last = *kept = &recent[slot];
+    read *last = &recent[(mix(this.site, 0) + number) & (RECENT - 1)];       /* neighbours are side by side */
     int same = last->site == this.site && last->piece == number && last->writes == this.writes
         && last->epoch == this.epoch && last->locks == this.locks && !whole_trace;
-    if (!same) *last = this;
-    else for (; last->from < last->end; last->from++) note_repeated(last->from);
+    *last = this;
     return same;
 }
 
-static void keep_event(read *kept, u64 event) {
-    if (!event) return;
+/* The events of a read in a page's trace, unless they are known to stand for others. */
+typedef struct { u64 from, end; } read_events;
+
+static void keep_event(read_events *kept, u64 event) {
+    if (!event || !kept) return;
     if (event != kept->end) kept->from = event;
     kept->end = event + 1;
 }
@@ -190,19 +202,19 @@ static void keep_event(read *kept, u64 event) {
 /* An event of the variable itself, or of that which stands for its atomic writes by one thread. The page's
    trace lacks those of variables in no race, but each thread's first one. Returns its number in the trace
    that is written, if it isn't known yet whether it stands for others; else 0. */
-static u64 piece_event(u64 i, u64 own, u32 number, const char *operation, u32 writer, int is_kept) {
+static u64 piece_event(u64 i, const use *u, u32 number, const char *operation, u32 writer) {
     char text[NAME_BYTES + THREAD_BYTES];
     const piece *p = piece_of(number);
     u64 event_number = 0;
-    u32 t = thread_of(i);
-    if (!is_kept && has_events(t)) pass_event(t, *operation == 'w');
-    else if (writer == NOBODY) event_number = access_event(t, operation, number, caller_of(i), own);
+    int is_kept = takes_piece(number);
+    if (!is_kept && has_events(u->thread)) pass_event(u->thread);
+    else if (writer == NOBODY) event_number = access_event(u->thread, operation, number, caller_of(i), u->own);
     else {
         part name = variable_name(p->at, block_of(p->block));
         int length = snprintf(text, sizeof text, "%.*s!%s", (int)name.length, name.at, thread_name(writer));
-        event_number = event(t, operation, (part){text, length}, 0, caller_of(i));
+        event_number = event(u->thread, operation, (part){text, length}, 0, caller_of(i));
     }
-    if (is_kept) note_sight(t, own, number, writer, *operation == 'w');
+    if (is_kept) note_sight(u->thread, u->own, number, writer, *operation == 'w');
     if (!event_number || !is_repeated(i)) return event_number;
     note_repeated(event_number);
     return 0;
@@ -211,62 +223,86 @@ static u64 piece_event(u64 i, u64 own, u32 number, const char *operation, u32 wr
 static int is_shared(const piece_use *p) { return whole_trace || (p->users.many && p->written); }
 static int has_others(some_threads s, u32 t) { return s.many || (s.first && s.first != t + 1); }
 
+/* A read by the only thread that writes conflicts with nothing, and tells nothing. */
+static int may_have_events(const use *u, const piece_use *users) {
+    if (!is_shared(users) && !u->writes_atomically && !users->written_atomically) return 0;
+    return !only_reads(u) || has_others(users->writers, u->thread) || whole_trace;
+}
+
+static void find_own(u64 i, use *u) {
+    if (u->own) return;
+    u->own = own_place(u->thread, caller_of(i));
+    u->site = site_of(u->own);
+}
+
 /* An atomic write is a read of X, so that it conflicts with plain writes, and a write of a variable of X and
    its thread alone, which the plain reads of others read too: so it conflicts with these, and never with an
-   atomic access. A read by the only thread that writes conflicts with nothing, and tells nothing. */
-static void piece_events(u64 i, use *u, u32 number, int is_kept) {
+   atomic access. */
+static void piece_events(u64 i, const use *u, u32 number, read_events *kept) {
     const piece_use *users = use_of_piece(number);
-    u32 t = u->thread;
-    int shared = is_shared(users);
-    if (!shared && !u->writes_atomically && !users->written_atomically) return;
-    int only_reads = !u->writes && !u->writes_atomically;
-    if (only_reads && !has_others(users->writers, t) && !whole_trace) return;
-    if (!u->own) u->own = own_place(t, caller_of(i));
-    if (!u->site) u->site = site_of(u->own);
-    u64 event_number = 0;
-    read *kept = 0;
-    if (only_reads && repeats(i, u, number, &kept)) return;
     piece *p = piece_of(number);
-    if (shared) event_number = piece_event(i, u->own, number, u->writes ? "w" : "r", NOBODY, is_kept);
-    if (kept) keep_event(kept, event_number);
+    if (is_shared(users)) keep_event(kept, piece_event(i, u, number, u->writes ? "w" : "r", NOBODY));
     if (u->writes) p->writes++;
-    if (u->writes_atomically && has_others(users->readers, t)) {
-        piece_event(i, u->own, number, "w", t, is_kept);
+    if (u->writes_atomically && has_others(users->readers, u->thread)) {
+        piece_event(i, u, number, "w", u->thread);
         p->writes++;
     }
     if (!u->reads) return;
     for (const list_entry *k = entry_of_list(p->atomic_writers); k; k = entry_of_list(k->next))
-        if (k->thread != t) keep_event(kept, piece_event(i, u->own, number, "r", k->thread, is_kept));
+        if (k->thread != u->thread) keep_event(kept, piece_event(i, u, number, "r", k->thread));
 }
 
 static char word_of(u64 i, const use *u) {
     return operation_of(i) == OP_FREE ? 'f' : u->writes ? 'w' : u->writes_atomically ? 'a' : 'r';
 }
 
-static void use_piece(u64 i, use *u, u32 number) {
-    u64 before = written;
-    int is_kept = takes_piece(number);
-    piece_events(i, u, number, is_kept);
-    if (is_kept) count_use(u->thread, caller_of(i), number, word_of(i, u));
-    if (!with_stacks || !is_kept) return;
+/* `before`: so many events were written before those of the access. Of a local only an event has a name; of a
+   block any access may tell it. */
+static void note_piece(u64 i, const use *u, u32 number, u64 before) {
     const piece *p = piece_of(number);
     const block *b = block_of(p->block);
-    /* of a local only an event has a name; of a block any access may tell it */
-    if (written == before && (!b || b->stack)) return;
+    if (!with_stacks || (written == before && (!b || b->stack))) return;
     note_name(p->at, p->block, before + 1, u->thread);
     if (operation_of(i) == OP_FREE) return;
-    const int writes = u->writes || u->writes_atomically;
     note_use_of_block(p->at, p->block,
-                      (use_of_block){address_of(i), accessed_bytes(i), caller_of(i), writes});
+                      (use_of_block){address_of(i), accessed_bytes(i), caller_of(i), !only_reads(u)});
+}
+
+static void use_piece(u64 i, use *u, u32 number) {
+    u64 before = written;
+    int has_events = may_have_events(u, use_of_piece(number));
+    if (has_events) find_own(i, u);
+    if (has_events && only_reads(u)) has_events = !repeats(i, u, number);
+    note_visit(has_events);
+    if (has_events) piece_events(i, u, number, 0);
+    note_piece(i, u, number, before);
+}
+
+/* What was omitted in the run's trace isn't in the page's, where the last read of its site stands for it. */
+static void use_on_page(u64 i, use *u, u32 number) {
+    static INTERNED(read_events) reads;          /* by sites, each with its thread, and pieces */
+    u64 before = written;
+    int made = next_visit(), is_kept = takes_piece(number);
+    read_events *kept = 0;
+    if (!made && !is_kept) return;
+    if (is_kept || !has_events(u->thread)) find_own(i, u);
+    if (is_kept && only_reads(u)) kept = ENTRY(reads, site_and_thread(u), number);
+    if (kept && made) *kept = (read_events){0};
+    if (made) piece_events(i, u, number, kept);
+    else for (; kept && kept->from < kept->end; kept->from++) note_repeated(kept->from);
+    if (!is_kept) return;
+    count_use(u->thread, caller_of(i), number, word_of(i, u));
+    note_piece(i, u, number, before);
 }
 
 void access_events(u64 i) {
     u32 found = known[i].accessed;
     if (!found) return;
     use u = use_of(i);
-    if (found <= MOST_PIECES) use_piece(i, &u, found);
+    void (*use_it)(u64, use *, u32) = is_for_page() ? use_on_page : use_piece;
+    if (found <= MOST_PIECES) use_it(i, &u, found);
     else for (const run *r = &runs.at[found - MOST_PIECES - 1];; r++) {
-        for (u32 k = 0; k < r->count && !cut_reason; k++) use_piece(i, &u, r->first + k);
+        for (u32 k = 0; k < r->count && !cut_reason; k++) use_it(i, &u, r->first + k);
         if (r->is_last) return;
     }
 }

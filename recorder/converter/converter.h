@@ -44,7 +44,7 @@ u64 address_of(u64 i), caller_of(u64 i), size_of(u64 i);
 u64 late_context(u64 i);
 int is_repeated(u64 i);                /* is it late, and stands for earlier ones? */
 void name_piece(u64 i, char *piece);   /* of a record OP_NAME: NAME_PIECE bytes and an end */
-u64 depth_inside(u64 i);               /* DEPTH_BEFORE where it is told by records before */
+u64 depth_inside(u64 i);               /* MOST_FRAMES where it is told by records before */
 void begin_thread_pass(void);
 /* each pass calls these for each fork and begin; 0 where there are too many threads */
 int meet_fork(u64 i);
@@ -240,6 +240,7 @@ void forget_trace(void);               /* its locks: threads are forgotten with 
 enum trace_step { TRACE_PAUSES, SPAN_BEGINS, SPAN_GOES_ON, SPAN_ENDS, TRACE_ENDS };
 int read_races(const char *path, u64 run_events);  /* of a page, whose trace is next; 0: there are none */
 void open_uses(const char *path);
+int is_for_page(void);
 int takes_piece(u32 piece);            /* has it the accesses of this piece? */
 enum trace_step step_trace(u64 number);                      /* before each event of the run, by its number */
 void end_trace(const char *why);
@@ -271,7 +272,7 @@ void note_record(u64 i);
 extern int has_fences;                 /* known before the third pass */
 void share_fence(u64 i);
 void forget_states(void);              /* of objects, between the passes */
-void begin_reads(void);                /* of each trace */
+void begin_visits(void);               /* of each trace */
 void write_holds(u32 t);               /* acquires of what it holds that aren't in the trace */
 typedef void (*held_lock)(const char *operation, u32 t, const hold *h);
 /* those whose acquires are in the trace, the oldest first */
@@ -298,7 +299,7 @@ void name_by_own(u32 t, u64 i);
 void give_name(u32 t, const char *piece, int is_first);
 const char *thread_name(u32 t);        /* with an end */
 int has_events(u32 t);
-void pass_event(u32 t, int writes);    /* an access that the page's trace lacks */
+void pass_event(u32 t);                /* an access that the page's trace lacks */
 part name_of_thread(u32 t);            /* with WIDE bytes that may be read */
 part variable_name(u64 address, const block *b);             /* it stands until the next call */
 /* Each returns the event's number in the trace, or 0. name: with WIDE bytes behind; other: see trace_event */
@@ -307,4 +308,5 @@ u64 access_event(u32 t, const char *operation, u32 piece, u64 caller, u64 own_pl
 void lock_event(u32 t, const char *operation, u32 lock, u64 caller);   /* the lock's number in state.c */
 /* the same, which orders no thread */
 void hold_event(u32 t, const char *operation, u32 lock, u64 caller, u32 stack);
+extern int is_unwritten;               /* the trace is made for that of a page alone */
 void write_lines(void);                /* the last of the trace */

@@ -144,8 +144,10 @@ static part piece_name(u32 number) {
 static char lines[1 << 16];
 static u64 lines_bytes;
 
+int is_unwritten;
+
 void write_lines(void) {
-    fwrite_unlocked(lines, 1, lines_bytes, stdout);
+    if (!is_unwritten) fwrite_unlocked(lines, 1, lines_bytes, stdout);
     lines_bytes = 0;
 }
 
@@ -217,11 +219,10 @@ static int has_event(enum trace_step step, enum event_kind kind, int is_first) {
     return is_inside(step) || (step != TRACE_ENDS && (is_first || kind == IS_FORK || kind == IS_JOIN));
 }
 
-void pass_event(u32 t, int writes) {
+void pass_event(u32 t) {
     if (is_over()) return;
     write_holds(t);
     meet_span();
-    threads[t].epoch += writes;
     events++;
 }
 

@@ -123,7 +123,7 @@ static inline __attribute__((always_inline)) void pass(void (*step)(u64), int is
 static void write_trace(int has_stacks) {
     forget_thread_states();
     forget_states();
-    begin_reads();
+    begin_visits();
     begin_calls(has_stacks);
     begin_events();
     pass(write_events, 0);
@@ -210,15 +210,15 @@ static void write_to(const char *path) {
     if (!freopen(path, "w", stdout)) cannot_write(path);
 }
 
-/* In a pipe with room this process and shb places --list give way to each other less often. Returns why the
-   trace is cut, or null. */
-static const char *write_run(void) {
-    if (for_list) most = LIMITS_OF_LIST;
+/* In a pipe with room this process and shb places --list give way to each other less often. */
+static void write_run(void) {
+    is_unwritten = !for_list && paths[ONLY];
+    if (for_list || is_unwritten) most = LIMITS_OF_LIST;
     else most.events = event_limit;
     /* bytes, the most that the system gives */
     if (for_list) fcntl(fileno(stdout), F_SETPIPE_SZ, 1 << 20);
-    write_trace(!for_list);
-    return cut_reason;
+    write_trace(!for_list && !is_unwritten);
+    is_unwritten = 0;
 }
 
 /* A part of the run's trace, which has so many events. */
@@ -241,12 +241,11 @@ int main(int count, char **words) {
     pass(find_cuts, 0);
     find_places();
     pass(find_sharing, 0);
-    int has_run = for_list || !paths[ONLY];
-    const char *cut = has_run ? write_run() : 0;
+    write_run();
+    const char *cut = for_list || !paths[ONLY] ? cut_reason : 0;
     u64 run_events = events;
     if (paths[PAGE]) write_to(paths[PAGE]);
-    if (paths[ONLY]) write_page(has_run ? run_events : -1ull);
-    if (!has_run) run_events = events;
+    if (paths[ONLY]) write_page(run_events);
     if (paths[LEFT]) write_blocks(paths[LEFT]);
     fprintf(stderr, "shb-std: %lu records, %u threads, %lu events\n", entry_count, record_threads,
             run_events);

@@ -124,6 +124,8 @@ static int is_racing(u32 number) {
     return answers.at[number] == YES;
 }
 
+int is_for_page(void) { return into == &page; }
+
 int takes_piece(u32 number) { return !into->names.count || is_racing(number); }
 
 /* ---- the spans ---- */

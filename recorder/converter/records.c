@@ -113,7 +113,7 @@ void forget_thread_states(void) {
     for (u32 t = 0; t < thread_bound(); t = next_thread(t)) {
         thread_state *s = &threads[t];
         thread_calls *c = &s->calls;
-        c->calls.count = c->known = c->owned = c->told = c->in = c->length = c->depth = c->last = 0;
+        c->calls.count = c->known = c->owned = c->told = c->now = c->in = c->length = c->depth = c->last = 0;
         s->held.count = s->unwritten = s->locks = 0;
         s->has_begun = s->is_forked = s->is_joined = 0;
         s->forked_by = s->notes.count = s->is_fenced = s->gave = 0;
@@ -138,7 +138,8 @@ void name_piece(u64 i, char *piece) { piece_of_name(*record_at(i), piece); }
 
 u64 depth_inside(u64 i) {
     u64 inside = record_at(i)->what >> 54;
-    return is_access(record_at(i)) && !(inside & IS_RANGE) ? inside >> LOGARITHM_BITS : DEPTH_BEFORE;
+    u64 depth = is_access(record_at(i)) && !(inside & IS_RANGE) ? inside >> LOGARITHM_BITS : DEPTH_BEFORE;
+    return depth == DEPTH_BEFORE ? MOST_FRAMES : depth;
 }
 
 /* ---- whether the entries are good ---- */

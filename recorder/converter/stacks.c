@@ -189,25 +189,42 @@ void note_call(u64 i) {
     if (file) note_caller(address_of(i));
 }
 
-void meet_call(u64 i) {
-    thread_calls *s = &threads[thread_of(i)].calls;
+/* A record of calls. */
+static void meet_told(thread_calls *s, u64 i) {
     enum operation operation = operation_of(i);
-    if (operation == OP_NAME) return;
-    s->way = has_way == i && !late_context(i) ? told_way : 0;
     if (operation == OP_WAY) {
         told_way = caller_of(i);
         has_way = i + 1;
     }
     if (operation == OP_PLACE) told_place = address_of(i);
     if (operation == OP_FRAME) meet_frame(s, i);
+    if (operation == OP_CONTEXT) s->told = context_of(i);
+}
+
+/* What a thread is in by its last record. Without a file of stacks few records are asked for it. */
+static thread_calls *calls_of(u32 t) {
+    thread_calls *s = &threads[t].calls;
+    enter(s, s->now);
+    s->depth = s->inside < s->length ? s->inside : s->length;
+    return s;
+}
+
+void meet_call(u64 i) {
+    u32 t = thread_of(i);
+    thread_calls *s = &threads[t].calls;
+    enum operation operation = operation_of(i);
+    int is_of_calls = operation >= OP_FRAME && operation <= OP_CONTEXT;
+    if (operation == OP_NAME) return;
+    s->way = has_way == i && !late_context(i) ? told_way : 0;
+    if (is_of_calls) meet_told(s, i);
     if (operation != OP_WAY) has_place = operation == OP_PLACE;
     if (operation == OP_START) s->end = address_of(i) + size_of(i);
-    if (operation == OP_CONTEXT) s->told = context_of(i);
-    if (contexts.count) enter(s, s->told);
-    if (contexts.count && late_context(i)) enter(s, context_of(i));
-    s->caller = operation < OP_FRAME || operation > OP_CONTEXT ? caller_of(i) : 0;
-    u64 inside = depth_inside(i);
-    s->depth = inside != DEPTH_BEFORE && inside < s->length ? inside : s->length;
+    s->now = late_context(i) ? context_of(i) : s->told;
+    s->caller = is_of_calls ? 0 : caller_of(i);
+    s->inside = depth_inside(i);
+    if (!with_stacks) return;
+    enter(s, s->told);
+    calls_of(t);
     if (operation < OP_FRAME || operation == OP_CONTEXT) leave_functions(s);
 }
 
@@ -220,7 +237,7 @@ static u64 own_of(u64 caller, u64 way, const call *outer) {
 
 u64 own_place(u32 t, u64 caller) {
     if (is_own_place(caller)) return caller;
-    thread_calls *s = &threads[t].calls;
+    thread_calls *s = calls_of(t);
     for (; s->owned < s->depth; s->owned++) {
         call *c = &s->calls.at[s->owned];
         c->own = own_of(c->caller, c->way, s->owned ? c - 1 : 0);
@@ -247,7 +264,8 @@ static u32 node_by_way(u32 outer, u64 caller, u64 function, u64 way) {
 }
 
 /* The stack of what a thread does now, at a place in its innermost function. */
-static u32 node_now(thread_calls *s, u64 caller) {
+static u32 node_now(u32 t, u64 caller) {
+    thread_calls *s = calls_of(t);
     for (; s->known < s->depth; s->known++) {
         call *c = &s->calls.at[s->known];
         c->node = node_by_way(s->known ? c[-1].node : 0, c->caller, c->function, c->way);
@@ -262,7 +280,7 @@ static u32 node_now(thread_calls *s, u64 caller) {
     return s->last;
 }
 
-u32 stack_at(u32 t, u64 caller) { return with_stacks ? node_now(&threads[t].calls, caller) : 0; }
+u32 stack_at(u32 t, u64 caller) { return with_stacks ? node_now(t, caller) : 0; }
 
 void begin_calls(int has_stacks) {
     has_place = 0;
@@ -359,7 +377,7 @@ void stack_of_event(u32 number) {
 
 static int notes_uses(void) {
     static u64 noted;
-    return with_stacks && span_last && noted < MOST_USES && ++noted;
+    return span_last && noted < MOST_USES && ++noted;
 }
 
 /* Loads with acquire are counted apart from others. */
@@ -372,6 +390,7 @@ void note_use(u64 i, u64 object, int gives) {
     static const char *const orders[] = {"relaxed", "acquire", "release", "both"};
     static u64 stores;
     static INTERNED(u64) last_stores;  /* of objects, each with its thread; 0 before one */
+    if (!with_stacks) return;
     u32 t = thread_of(i);
     u64 *last = ENTRY(last_stores, object, 0);
     int is_load = operation_of(i) == OP_ATOMIC_LOAD, is_store = operation_of(i) == OP_ATOMIC_STORE;
@@ -388,7 +407,7 @@ void note_use(u64 i, u64 object, int gives) {
 }
 
 void note_fence(u64 i) {
-    if (!notes_uses()) return;
+    if (!with_stacks || !notes_uses()) return;
     part place = place_of(caller_of(i));
     fprintf(lines, "use %lu\t\t%s\t%.*s\tfence acquire\n", written + 1, thread_name(thread_of(i)),
             (int)place.length, place.at);
@@ -490,7 +509,7 @@ void note_crash(u64 i) {
     crash.caller = own_place(thread_of(i), caller_of(i));
     crash.thread = thread_of(i);
     crash.is_met = 1;
-    crash.node = file ? node_now(&threads[crash.thread].calls, caller_of(i)) : 0;
+    crash.node = file ? node_now(crash.thread, caller_of(i)) : 0;
     keep_stack(crash.node);
 }
 

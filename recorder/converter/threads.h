@@ -21,8 +21,9 @@ typedef struct {
     /* the outermost first; behind `length` are those that were met before */
     VECTOR(call) calls;
     u32 known, owned;                  /* of how many of the first the node is known, and the own place */
-    /* its context by the records before; that of `calls`, with its depth */
-    u32 told, in, length;
+    /* its context by the records before; that of the present one, with in how many of its functions that is;
+       that of `calls`, with its depth */
+    u32 told, now, inside, in, length;
     u32 depth;                         /* of the present record */
     u64 way, caller;                   /* of the present one */
     u64 end;                           /* of its stack */
