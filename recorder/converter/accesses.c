@@ -291,7 +291,7 @@ static void use_on_page(u64 i, use *u, u32 number) {
     if (made) piece_events(i, u, number, kept);
     else for (; kept && kept->from < kept->end; kept->from++) note_repeated(kept->from);
     if (!is_kept) return;
-    count_use(u->thread, caller_of(i), number, word_of(i, u));
+    count_use(u->thread, caller_of(i), u->own, number, word_of(i, u));
     note_piece(i, u, number, before);
 }
 

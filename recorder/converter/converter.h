@@ -215,7 +215,8 @@ u64 allocated_by(u32 block_number);    /* what called for it, or 0 */
 /* heap.c: what lies in blocks of the heap. */
 /* an access; length 0: it isn't known */
 typedef struct { u64 at, length, caller; int writes; } use_of_block;
-void note_in_block(u64 at, u32 block_number, u64 length);    /* of what has a name */
+enum { MOST_LENGTH = 4096 };           /* of what has a name: of a longer piece its end isn't looked for */
+void note_in_block(u64 at, u32 block_number);                /* of what has a name */
 /* the same: it may tell what lies there */
 void note_use_of_block(u64 at, u32 block_number, use_of_block use);
 void write_names_in_blocks(FILE *to);
@@ -250,7 +251,7 @@ void note_written(u64 number, u64 in_page);                  /* an event of the 
 void note_part(u64 in_page);           /* a span begins or ends behind so many events */
 part name_of_held(u64 key);            /* objects.c: of a lock that a thread holds */
 int is_for_reading(u64 key);           /* the same: does it hold it for reading? */
-void count_use(u32 t, u64 caller, u32 piece, char word);
+void count_use(u32 t, u64 caller, u64 own_place, u32 piece, char word);
 enum { NOBODY = -1u };
 /* an event of the piece, or of what stands for a thread's atomic writes */
 void note_sight(u32 t, u64 own_place, u32 piece, u32 writer, int writes);

@@ -17,12 +17,15 @@ static VECTOR(access) accesses;
 static VECTOR(object) objects;
 static INTERNED(chain) chains;         /* of blocks: their objects */
 
-void note_in_block(u64 at, u32 block_number, u64 length) {
-    u64 caller = allocated_by(block_number);
+void note_in_block(u64 at, u32 block_number) {
+    if (map_find(&in_blocks.numbers, at, block_number)) return;
+    const block *b = block_of(block_number);
+    u64 caller = allocated_by(block_number), end = b->at + b->size;
     inlined_frame *f = caller && !is_of_system(caller) ? frames_of(caller) : 0;
     if (!f || f->in_system) return;
-    in_block *i = ENTRY(in_blocks, at, block_number);
-    if (!i->block) *i = (in_block){.at = at, .length = length, .block = block_number};
+    if (end - at > MOST_LENGTH) end = at + MOST_LENGTH;
+    *ENTRY(in_blocks, at, block_number) =
+        (in_block){.at = at, .length = next_cut(at, end) - at, .block = block_number};
 }
 
 void note_use_of_block(u64 at, u32 block_number, use_of_block use) {

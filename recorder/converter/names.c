@@ -11,6 +11,7 @@ typedef struct { VECTOR(symbol) symbols; int is_asked; } page_symbols;
 typedef struct {
     u64 low, high, base;
     char *path;
+    int in_system, is_recorder;        /* by its path */
     struct reader *reader;             /* null until it is asked */
     INTERNED(page_symbols) pages;      /* of its file, those of which symbols were asked for */
     INTERNED(char *) members;          /* the text of an address and a length in a variable */
@@ -53,9 +54,15 @@ static struct reader *reader_of(module *m) {
 /* Says what isn't read of a module of the program's own, once for each. */
 static void say_unread(module *m) {
     answer why;
-    if (m->is_said++ || in_system(m->path) || !ask_one(reader_of(m), ASK_UNREAD, 0, 0, &why)) return;
+    if (m->is_said++ || m->in_system || !ask_one(reader_of(m), ASK_UNREAD, 0, 0, &why)) return;
     fprintf(stderr, "shb-std: %s: members of variables, and locals, may have no names, for its debug "
                     "information %s\n", m->path, why.first);
+}
+
+/* A module's name. */
+static const char *leaf(const char *path) {
+    const char *slash = strrchr(path, '/');
+    return slash ? slash + 1 : path;
 }
 
 void read_modules(char *header) {
@@ -68,6 +75,8 @@ void read_modules(char *header) {
         m->path = copied(line + path);
         for (char *p = m->path; *p; p++)
             if (*p == LINE_END_IN_PATH) *p = '\n';
+        m->in_system = in_system(m->path);
+        m->is_recorder = !strncmp(leaf(m->path), "libtsan.so", 10);
         module_count++;
     }
 }
@@ -100,22 +109,14 @@ static symbol *symbol_at(module *m, u64 address) {
     return s && address - s->at < s->size && *s->name ? s : 0;
 }
 
-/* A module's name. */
-static const char *leaf(const char *path) {
-    const char *slash = strrchr(path, '/');
-    return slash ? slash + 1 : path;
-}
-
-static int is_recorder(const module *m) { return !strncmp(leaf(m->path), "libtsan.so", 10); }
-
 int is_of_recorder(u64 caller) {
     const module *m = module_at(caller);
-    return m && is_recorder(m);
+    return m && m->is_recorder;
 }
 
 int is_of_system(u64 caller) {
     const module *m = module_at(caller);
-    return m && in_system(m->path) && !is_recorder(m);
+    return m && m->in_system && !m->is_recorder;
 }
 
 /* Where a lambda begins in a function's name that isn't in an argument of a template or a parameter;
@@ -185,7 +186,7 @@ static char *lambda_among(const char *name) {
 /* By its module and its name, not by what is inlined at its beginning. */
 int own_function_name(u64 address, char *buffer, size_t size) {
     module *m = module_at(address);
-    symbol *s = m && !in_system(m->path) && !is_recorder(m) ? symbol_at(m, address) : 0;
+    symbol *s = m && !m->in_system && !m->is_recorder ? symbol_at(m, address) : 0;
     char *name = s ? short_name(s) : 0;
     if (name && (is_of_cxx_library(name) || !strncmp(name, "__rust_", 7))) {
         free(name);
@@ -197,8 +198,6 @@ int own_function_name(u64 address, char *buffer, size_t size) {
 }
 
 /* ---- members of variables ---- */
-enum { MOST_LENGTH = 4096 };           /* of a piece that is longer it isn't looked at where it ends */
-
 static u64 length_at(const symbol *s, u64 address) {
     u64 end = s->at + s->size;
     return next_cut(address, end - address < MOST_LENGTH ? end : address + MOST_LENGTH) - address;
@@ -301,7 +300,7 @@ size_t name_by_use(u64 caller, const u64 use[6], char name[NAME_BYTES], u64 *beg
     u64 asked[7] = {m ? caller - 1 - m->base : 0};
     answer part;
     memcpy(asked + 1, use, 6 * sizeof *use);
-    if (!m || in_system(m->path) || is_recorder(m) || !ask_one(reader_of(m), ASK_USE, asked, 7, &part))
+    if (!m || m->in_system || m->is_recorder || !ask_one(reader_of(m), ASK_USE, asked, 7, &part))
         return 0;
     if (part.one > strlen(part.first) || strlen(part.first) >= NAME_BYTES) return 0;
     *begin = part.two >> 32;
@@ -384,12 +383,12 @@ static char *function_part(char *name) {
 }
 
 static inlined_frame *frame_of(const module *m, const answer *a) {
-    int is_named = a->two || !in_system(m->path);            /* else the name may be a neighbour's */
+    int is_named = a->two || !m->in_system;            /* else the name may be a neighbour's */
     u64 line = *a->second && a->two < UINT32_MAX ? a->two : 0;
     inlined_frame *f = new_frame(is_named ? cleaned(function_part(copied(a->first))) : "",
                                  line ? copied(a->second) : 0, line);
     if (line && !m->is_late) note_source(a->second);
-    f->in_system = in_system(m->path);
+    f->in_system = m->in_system;
     f->in_rust_library = line && in_rust_library(a->second);
     f->in_system_file = f->in_system || (line && in_system(a->second));
     return f;
@@ -501,13 +500,13 @@ static void find_place(place *p) {
     p->text = line_end(chosen ? chosen->location : address);
     free(address);
     p->length = strlen(p->text);
-    p->is_own = m && !is_recorder(m) && !(chosen ? chosen->in_system_file : in_system(m->path));
+    p->is_own = m && !m->is_recorder && !(chosen ? chosen->in_system_file : m->in_system);
     const inlined_frame *last = outermost(p->frames);
     p->is_unseen = last && last->in_rust_library && !is_hooked(m, p->caller);
     has_unseen |= p->is_unseen;
     if (p->frames) return;
     p->frames = new_frame("", p->text, 0);
-    p->frames->in_system = p->frames->in_system_file = m && in_system(m->path);
+    p->frames->in_system = p->frames->in_system_file = m && m->in_system;
 }
 
 /* The places of all callers whose module was asked, or that are in none. */
@@ -535,9 +534,9 @@ static int has_callers(const module *m) {
 void find_places(void) {
     nowhere.text = line_end("");
     for (module *m = modules; m < modules + module_count; m++) {
-        if (!in_system(m->path) && !is_recorder(m)) note_sources_of(m);
-        m->is_late = is_recorder(m)
-            || (m > modules && in_system(m->path) && !(has_callers(m) && has_own_lines(m)));
+        if (!m->in_system && !m->is_recorder) note_sources_of(m);
+        m->is_late = m->is_recorder
+            || (m > modules && m->in_system && !(has_callers(m) && has_own_lines(m)));
         if (!m->is_late) ask_for_lines(m);
     }
     find_asked_places();

@@ -172,13 +172,19 @@ void note_part(u64 in_page) {
 /* A sum is of a thread, a stack or a lock's key; `first`, `last` and `next` chain those of a use. */
 enum sum_kind { BY, BARE, HELD, MANY, UNDER, READING };
 typedef struct { u64 of, count; u32 kind, next; } sum;
-typedef struct { u64 caller; const char *local; u32 piece, first, last; char word; } use;
+typedef struct {
+    u64 own;
+    const char *local;
+    u32 piece, first, last, recent[READING + 1];             /* recent: of each kind that which was added to */
+    char word;
+} use;
 static INTERNED(sum) sums;
 static INTERNED(use) uses;
 
 static void add_sum(u32 number, enum sum_kind kind, u64 of) {
-    u32 at = INTERN(sums, (u64)number << 32 | kind, of);
     use *u = &uses.at[number - 1];
+    u32 at = u->recent[kind];
+    if (!at || sums.at[at - 1].of != of) at = u->recent[kind] = INTERN(sums, (u64)number << 32 | kind, of);
     if (sums.at[at - 1].count++) return;
     sums.at[at - 1] = (sum){of, 1, kind, 0};
     *(u->last ? &sums.at[u->last - 1].next : &u->first) = at;
@@ -196,23 +202,21 @@ static void add_locks(u32 number, u32 t, u32 stack) {
             add_sum(number, is_for_reading(h->key) ? READING : UNDER, h->key);
 }
 
-void count_use(u32 t, u64 caller, u32 number, char word) {
-    static map texts;
-    static INTERNED(u32) places;       /* by places in the code: the numbers of their texts */
+void count_use(u32 t, u64 caller, u64 own, u32 number, char word) {
+    static map locals;
     if (!uses_file) return;
     const piece *p = piece_of(number);
-    u64 own = own_place(t, caller);
     const char *local = local_now(p->at, block_of(p->block));
-    u32 in = *local ? map_text(&texts, local) : 0, *place = ENTRY(places, own, 0);
-    if (!*place) *place = map_text(&texts, place_of(own).at);
-    u32 at = INTERN(uses, (u64)*place << 32 | number, (u64)word << 32 | in);
-    if (!uses.at[at - 1].word) uses.at[at - 1] = (use){own, local, number, 0, 0, word};
+    u32 in = *local ? map_text(&locals, local) : 0,
+        at = INTERN(uses, (u64)site_of(own) << 32 | number, (u64)word << 32 | in);
+    if (!uses.at[at - 1].word) uses.at[at - 1] = (use){.own = own, .local = local, .piece = number, .word = word};
     add_sum(at, BY, t);
     add_locks(at, t, stack_at(t, caller));
 }
 
 /* ---- which writes were read ---- */
-typedef struct { u64 caller; u32 thread; } last_write;       /* its thread plus one */
+/* its thread plus one; where it was read last */
+typedef struct { u64 own, reader; u32 thread; } last_write;
 typedef struct { u64 written, read; u32 piece, writer; } sight;
 /* by pieces, each with an atomic's writer or NOBODY */
 static INTERNED(last_write) last_writes;
@@ -222,10 +226,11 @@ void note_sight(u32 t, u64 own, u32 number, u32 writer, int writes) {
     static map places;
     if (!uses_file) return;
     last_write *last = ENTRY(last_writes, number, writer);
-    if (writes) *last = (last_write){own, t + 1};
-    else if (last->thread && last->thread != t + 1)
-        *ENTRY(sights, map_number(&places, last->caller, own),
-               (u64)writer << 32 | number) = (sight){last->caller, own, number, writer};
+    if (writes) *last = (last_write){own, 0, t + 1};
+    if (writes || !last->thread || last->thread == t + 1 || last->reader == own) return;
+    last->reader = own;
+    *ENTRY(sights, map_number(&places, last->own, own),
+           (u64)writer << 32 | number) = (sight){last->own, own, number, writer};
 }
 
 static void write_sight(const sight *s) {
@@ -241,9 +246,9 @@ static void write_sight(const sight *s) {
 static void write_sum(const sum *s) {
     static const char *const words[] = {"by", "bare", "held", "many", "under", "reading"};
     fprintf(uses_file, "\t%s\t%lu\t", words[s->kind], s->count);
+    part name = s->kind >= UNDER ? name_of_held(s->of) : (part){0};
     if (s->kind == BY) fputs(thread_name(s->of), uses_file);
-    else if (s->kind >= UNDER)
-        fprintf(uses_file, "%.*s", (int)name_of_held(s->of).length, name_of_held(s->of).at);
+    else if (s->kind >= UNDER) fwrite_unlocked(name.at, 1, name.length, uses_file);
     else {
         fprintf(uses_file, "%lu", s->of);
         keep_stack(s->of);
@@ -252,7 +257,7 @@ static void write_sum(const sum *s) {
 
 static void write_use(const use *u) {
     const piece *p = piece_of(u->piece);
-    part name = variable_name(p->at, block_of(p->block)), place = place_of(u->caller);
+    part name = variable_name(p->at, block_of(p->block)), place = place_of(u->own);
     fprintf(uses_file, "use\t%c\t%.*s\t", u->word, (int)name.length, name.at);
     write_own_name(uses_file, u->local);
     fprintf(uses_file, "\t%.*s", (int)place.length, place.at);

@@ -326,8 +326,6 @@ u64 allocated_by(u32 block_number) {
     return b && b->node ? node_at(b->node)->caller : 0;
 }
 
-enum { MOST_LENGTH = 4096 };            /* of what has a name */
-
 const char *local_now(u64 at, const block *b) {
     u32 depth;
     if (!b || !b->stack) return "";
@@ -348,8 +346,7 @@ void note_name(u64 at, u32 block_number, u64 event, u32 t) {
     if (with_stacks && !b) note_own_name(at);
     if (!with_stacks || !b) return;
     if (!b->stack) {
-        u64 end = b->at + b->size;
-        note_in_block(at, block_number, next_cut(at, at + MOST_LENGTH < end ? at + MOST_LENGTH : end) - at);
+        note_in_block(at, block_number);
         return;
     }
     thread_calls *s = &threads[b->thread].calls;
