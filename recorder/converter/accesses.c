@@ -205,14 +205,14 @@ static void keep_event(read_events *kept, u64 event) {
 static u64 piece_event(u64 i, const use *u, u32 number, const char *operation, u32 writer) {
     char text[NAME_BYTES + THREAD_BYTES];
     const piece *p = piece_of(number);
-    u64 event_number = 0;
+    u64 event_number = 0, caller = caller_of(i);
     int is_kept = takes_piece(number);
     if (!is_kept && has_events(u->thread)) pass_event(u->thread);
-    else if (writer == NOBODY) event_number = access_event(u->thread, operation, number, caller_of(i), u->own);
+    else if (writer == NOBODY) event_number = access_event(u->thread, operation, number, caller, u->own);
     else {
         part name = variable_name(p->at, block_of(p->block));
         int length = snprintf(text, sizeof text, "%.*s!%s", (int)name.length, name.at, thread_name(writer));
-        event_number = event(u->thread, operation, (part){text, length}, 0, caller_of(i));
+        event_number = event(u->thread, operation, (part){text, length}, 0, caller);
     }
     if (is_kept) note_sight(u->thread, u->own, number, writer, *operation == 'w');
     if (!event_number || !is_repeated(i)) return event_number;

@@ -175,7 +175,8 @@ typedef struct { u64 of, count; u32 kind, next; } sum;
 typedef struct {
     u64 own;
     const char *local;
-    u32 piece, first, last, recent[READING + 1];             /* recent: of each kind that which was added to */
+    u32 piece, first, last;
+    u32 recent[READING + 1];           /* of each kind that which was added to last */
     char word;
 } use;
 static INTERNED(sum) sums;
@@ -209,7 +210,8 @@ void count_use(u32 t, u64 caller, u64 own, u32 number, char word) {
     const char *local = local_now(p->at, block_of(p->block));
     u32 in = *local ? map_text(&locals, local) : 0,
         at = INTERN(uses, (u64)site_of(own) << 32 | number, (u64)word << 32 | in);
-    if (!uses.at[at - 1].word) uses.at[at - 1] = (use){.own = own, .local = local, .piece = number, .word = word};
+    if (!uses.at[at - 1].word)
+        uses.at[at - 1] = (use){.own = own, .local = local, .piece = number, .word = word};
     add_sum(at, BY, t);
     add_locks(at, t, stack_at(t, caller));
 }

@@ -202,6 +202,17 @@ class Many(recorder.Case):
         events = [line for line in uses.read_text().splitlines() if line.startswith("event\t")]
         self.assertEqual([line.split("\t")[2] for line in events], [str(one), str(other)])
 
+    def test_a_file_of_stacks_changes_no_trace(self):
+        """Nor which reads share entries of that table, though the functions of frames are places then."""
+        record, stacks = self.folder / "app.rec", self.folder / "stacks"
+        accesses = (1, "READ", 0x201), (1, "READ", 0x202), (1, "READ", 0x201), (0, "WRITE", 0x102)
+        record.write_bytes(HEADER + entry(0, "FORK", 1, 0x101) + entry(1, "FRAME", 0x300, 0x301)
+                           + b"".join(entry(t, kind, 0x100000 + 8 * k, place, 8)
+                                      for t, kind, place in accesses for k in range(MANY // 2)))
+        trace, other = (recorder.must(recorder.convert(record, *words)).stdout
+                        for words in (["--list"], ["--list", "--stacks", stacks]))
+        self.assertEqual(trace, other)
+
     def test_each_fault_is_found(self):
         for number, (name, before, after) in enumerate(FAULTS_OF_MANY):
             with self.subTest(before):
@@ -216,7 +227,7 @@ FAULTS_OF_MANY = (
 FAULTS = {  # to plant in the converter: the file, what stands there, and what in its place
     "users": ("accesses.c", "    add_thread(&b->users, t);", ""),
     "cuts": ("accesses.c", "if (operation_of(i) != OP_FREE) cut(end_of(i));", ""),
-    "atomics": ("accesses.c", "if (u->writes_atomically && has_others(users->readers, t)) {",
+    "atomics": ("accesses.c", "if (u->writes_atomically && has_others(users->readers, u->thread)) {",
                 "if (u->writes_atomically && users->readers.many) {"),
     "reuse": ("memory.c", "u32 newest = grain > p->whole ? grain : p->whole;", "u32 newest = grain ? 1 : "
               "p->whole;"),
@@ -257,7 +268,10 @@ FAULTS = {  # to plant in the converter: the file, what stands there, and what i
 
 FAULTS_OF_PAGES = {
     "no page for what is written atomically": ("page.c", "if (!sign) return;", "return;"),
-    "a write that is passed over orders nothing": ("events.c", "threads[t].epoch += writes;", ""),
+    "visits of other variables aren't counted": ("accesses.c", "if (!made && !is_kept) return;",
+                                                 "if (!is_kept) return;"),
+    "a read has events where the run's has none": ("accesses.c", "int made = next_visit(),",
+                                                   "int made = next_visit() | 1,"),
     "locks before what is passed over aren't counted": ("events.c", "    write_holds(t);\n    meet_span();",
                                                         "    meet_span();"),
 }

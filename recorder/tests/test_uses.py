@@ -116,6 +116,18 @@ class Uses(recorder.Case):
         self.assertEqual(recorder.listed(record, page), {(("0x102", "0x201"), hex(RANGE))})
         self.assertEqual(page.read_text().count("|r("), 2)
 
+    def test_a_load_before_the_first_store_is_of_no_store(self):
+        """Though the list's trace, which is made first, has met the store."""
+        record, races, page, stacks = (self.folder / name for name in ("app.rec", "races", "page", "stacks"))
+        record.write_bytes(HEADER + entry(0, "FORK", 1, 0x101) + entry(0, "WRITE", RANGE, 0x102, 4)
+                           + entry(1, "ATOMIC_LOAD", LOCK, 0x201, 4)
+                           + entry(0, "ATOMIC_STORE", LOCK, 0x103, 4) + entry(1, "WRITE", RANGE, 0x202, 4))
+        races.write_text(f"2 3 {hex(RANGE)}\n")
+        recorder.must(recorder.convert(record, "--list", "--only", races, "--page", page, "--stacks",
+                                       stacks))
+        found = [line for line in stacks.read_bytes().split(b"\n") if line.startswith(b"use ")]
+        self.assertEqual(found, [b"use 3\t%#x\tmain\t0x103\tstore relaxed" % LOCK])
+
     def test_what_was_read_of_another_thread_in_the_whole_run(self):
         """Also behind the end of the page's trace, and of what a thread wrote atomically; not of its own."""
         def access(thread, kind, place, size=4):
