@@ -3,10 +3,12 @@
 #include <mqueue.h>
 #include <pthread.h>
 #include <stdatomic.h>
+#include <stdio.h>
 #include <stdlib.h>
 #include <sys/ipc.h>
 #include <sys/msg.h>
 #include <sys/sem.h>
+#include <unistd.h>
 
 static int lock, posts, queue, count, racy, sent, posted;
 static mqd_t in, out;                  /* not every system has queues of POSIX */
@@ -45,13 +47,15 @@ int main(void) {
     struct mq_attr few = {0, 4, sizeof(int *), 0};
     struct message m = {1, &sent};
     int *data = &posted;
+    char name[32];                     /* its own, for two runs may be at once */
     pthread_t t;
+    snprintf(name, sizeof name, "/shb-queues-%d", getpid());
     lock = semget(IPC_PRIVATE, 1, 0600);
     posts = semget(IPC_PRIVATE, 1, 0600);
     queue = msgget(IPC_PRIVATE, 0600);
-    in = mq_open("/shb-queues", O_CREAT | O_RDONLY, 0600, &few);
-    out = mq_open("/shb-queues", O_WRONLY);
-    mq_unlink("/shb-queues");
+    in = mq_open(name, O_CREAT | O_RDONLY, 0600, &few);
+    out = mq_open(name, O_WRONLY);
+    mq_unlink(name);
     change(lock, 1);
     pthread_create(&t, 0, work, 0);
     while (!atomic_load_explicit(&has_posted, memory_order_relaxed)) ;
