@@ -162,8 +162,33 @@ void begin_visits(void) { visit = 0; }
 
 static int only_reads(const use *u) { return !u->writes && !u->writes_atomically; }
 
-static u64 site_and_thread(const use *u) {
-    return u->site | (u64)u->thread << 32 | (u64)u->reads << 63;             /* an atomic one tells less */
+static void find_own(u64 i, use *u) {
+    if (u->own) return;
+    u->own = own_place(u->thread, caller_of(i));
+    u->site = site_of(u->own);
+}
+
+/* The thread, and how it reads: an atomic read tells less than a plain one. */
+static u32 reader_of(const use *u) { return (u->thread + 1) | (u32)u->reads << 31; }
+
+/* Behind the last write of a variable that one thread alone writes, the first read of each other thread comes
+   after all writes: so its next ones conflict with nothing, and tell nothing. */
+static int is_settled(u64 i, u32 number) {
+    return i > piece_of(number)->last_write && !use_of_piece(number)->writers.many;
+}
+
+/* Is it such a next one, with no other thread's between? */
+static int reads_again(u64 i, const use *u, u32 number) {
+    u32 last = piece_of(number)->reader;
+    if (!is_settled(i, number)) return 0;
+    piece_of(number)->reader = reader_of(u);
+    return last == reader_of(u);
+}
+
+/* The reads of a thread that may stand for each other: at one location, unless that tells nothing. */
+static u64 kind_of_read(u64 i, use *u, u32 number) {
+    find_own(i, u);
+    return (u64)reader_of(u) << 32 | (is_settled(i, number) ? 0 : u->site);
 }
 
 /* The same read, by the same thread at the same place under the same locks, with no write of the variable
@@ -171,21 +196,21 @@ static u64 site_and_thread(const use *u) {
    it orders, the first does too. Behind the variable's last write it conflicts with nothing that comes, so
    locks and orders don't matter. A place is a location: of two reads in one line the second repeats the
    first. */
-static int repeats(u64 i, const use *u, u32 number) {
+static int repeats(u64 i, use *u, u32 number) {
     enum { RECENT = 1 << 18 };
-    typedef struct { u64 site, epoch, locks; u32 piece, writes; } read;
+    typedef struct { u64 kind, epoch, locks; u32 piece, writes; } read;
     static read *recent;
     if (!recent) recent = zeroed(RECENT, sizeof *recent);
     const thread_state *s = &threads[u->thread];
     const piece *p = piece_of(number);
-    read this = {.site = site_and_thread(u), .piece = number, .writes = p->writes};
+    read this = {.kind = kind_of_read(i, u, number), .piece = number, .writes = p->writes};
     if (i < p->last_write) {
         this.epoch = s->epoch + 1;
         this.locks = s->locks;
     }
-    read *last = &recent[(mix(this.site, 0) + number) & (RECENT - 1)];       /* neighbours are side by side */
-    int same = last->site == this.site && last->piece == number && last->writes == this.writes
-        && last->epoch == this.epoch && last->locks == this.locks && !whole_trace;
+    read *last = &recent[(mix(this.kind, 0) + number) & (RECENT - 1)];       /* neighbours are side by side */
+    int same = last->kind == this.kind && last->piece == number && last->writes == this.writes
+        && last->epoch == this.epoch && last->locks == this.locks;
     *last = this;
     return same;
 }
@@ -229,12 +254,6 @@ static int may_have_events(const use *u, const piece_use *users) {
     return !only_reads(u) || has_others(users->writers, u->thread) || whole_trace;
 }
 
-static void find_own(u64 i, use *u) {
-    if (u->own) return;
-    u->own = own_place(u->thread, caller_of(i));
-    u->site = site_of(u->own);
-}
-
 /* An atomic write is a read of X, so that it conflicts with plain writes, and a write of a variable of X and
    its thread alone, which the plain reads of others read too: so it conflicts with these, and never with an
    atomic access. */
@@ -271,25 +290,37 @@ static void note_piece(u64 i, const use *u, u32 number, u64 before) {
 static void use_piece(u64 i, use *u, u32 number) {
     u64 before = written;
     int has_events = may_have_events(u, use_of_piece(number));
-    if (has_events) find_own(i, u);
-    if (has_events && only_reads(u)) has_events = !repeats(i, u, number);
+    if (has_events && only_reads(u) && !whole_trace)
+        has_events = !reads_again(i, u, number) && !repeats(i, u, number);
     note_visit(has_events);
-    if (has_events) piece_events(i, u, number, 0);
+    if (has_events) {
+        find_own(i, u);
+        piece_events(i, u, number, 0);
+    }
     note_piece(i, u, number, before);
 }
 
-/* What was omitted in the run's trace isn't in the page's, where the last read of its site stands for it. */
+/* A read that is no event: those of these events that aren't known to do so stand for it. */
+static void omit_read(const use *u, u32 number, read_events *events) {
+    for (; events->from < events->end; events->from++) note_repeated(events->from);
+    note_sight(u->thread, u->own, number, NOBODY, 0);
+    if (!u->reads) return;
+    for (const list_entry *k = entry_of_list(piece_of(number)->atomic_writers); k; k = entry_of_list(k->next))
+        note_sight(u->thread, u->own, number, k->thread, 0);
+}
+
+/* What was omitted in the run's trace isn't in the page's, where the last read of its kind stands for it. */
 static void use_on_page(u64 i, use *u, u32 number) {
-    static INTERNED(read_events) reads;          /* by sites, each with its thread, and pieces */
+    static INTERNED(read_events) reads;          /* by kinds and pieces */
     u64 before = written;
     int made = next_visit(), is_kept = takes_piece(number);
     read_events *kept = 0;
     if (!made && !is_kept) return;
     if (is_kept || !has_events(u->thread)) find_own(i, u);
-    if (is_kept && only_reads(u)) kept = ENTRY(reads, site_and_thread(u), number);
+    if (is_kept && only_reads(u)) kept = ENTRY(reads, kind_of_read(i, u, number), number);
     if (kept && made) *kept = (read_events){0};
     if (made) piece_events(i, u, number, kept);
-    else for (; kept && kept->from < kept->end; kept->from++) note_repeated(kept->from);
+    else if (kept) omit_read(u, number, kept);
     if (!is_kept) return;
     count_use(u->thread, caller_of(i), u->own, number, word_of(i, u));
     note_piece(i, u, number, before);

@@ -163,6 +163,7 @@ typedef struct {
     u64 last_write;                    /* the record */
     /* the number of the one that was met last at its address, or 0 (objects.c) */
     u32 object;
+    u32 reader;                        /* of a settled one: who read it last (accesses.c) */
 } piece;
 /* Who uses a piece, reads it plainly and writes it, plainly or atomically. It stands apart, for most accesses
    ask no more, and of several neighbours. */

@@ -24,7 +24,7 @@
        repeated NUMBER-IN-PAGE
            this access stands for others of its kind, which are omitted: earlier ones in a phase of one
            owner; of a read also later ones, before the thread could order another or the variable is
-           written, or behind its last write
+           written, or behind its last write, at other locations too if one thread alone writes
        events COUNT-IN-PAGE         at the end */
 #define _GNU_SOURCE
 #include <errno.h>

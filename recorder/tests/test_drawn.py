@@ -236,9 +236,13 @@ FAULTS = {  # to plant in the converter: the file, what stands there, and what i
                   "variable_name(p->at & ~1ul, block"),
     "shared_lock": ("objects.c", "    int orders = o->threads.many || whole_trace;", "    int orders = "
                     "whole_trace || is_atomic(operation_of(i));"),
-    "an atomic read stands for a plain one": ("accesses.c", " | (u64)u->reads << 63", ""),
+    "an atomic read stands for a plain one": ("accesses.c", " | (u32)u->reads << 31", ""),
     "repeats": ("accesses.c", " && last->writes == this.writes", ""),
     "every write is the last": ("accesses.c", "if (i < p->last_write) {", "if (0) {"),
+    "a read settles before the last write": ("accesses.c", "return i > piece_of(number)->last_write && ",
+                                             "return "),
+    "a read settles what several threads wrote": ("accesses.c", " && !use_of_piece(number)->writers.many",
+                                                  ""),
     "who writes atomically is no writer": ("accesses.c", "    add_thread(&p->writers", "    if (u.writes) "
                                            "add_thread(&p->writers"),
     "fences": ("objects.c", "if (releases(i)) threads[thread_of(i)].is_fenced = 1;", ""),
