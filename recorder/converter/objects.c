@@ -20,9 +20,8 @@ typedef struct {
     u32 version, head;
     u32 stores;                        /* of the atomic: so far */
     VECTOR(gift) gifts;                /* what its present value gives */
-    u32 posts;                         /* of a semaphore */
-    VECTOR(u32) waiters;               /* of it; of a reader-writer lock: the readers since the last writer */
-    u64 first_waiters;                 /* of a semaphore: all that ever wait */
+    VECTOR(u32) posters;               /* of a semaphore: the thread of each post so far */
+    VECTOR(u32) readers;               /* of a reader-writer lock: since the last writer */
     u32 count, users, arrivals;        /* of a barrier */
     uint8_t is_of_atomic, recounted;   /* recounted: begun again with another count */
     uint8_t foreign;                   /* released by another thread than took it */
@@ -70,10 +69,10 @@ static int sees_version(object *o, u32 t) {                  /* for the first ti
     return 1;
 }
 
-static void add_waiter(object *o, u32 t) {
-    for (u64 i = 0; i < o->waiters.count; i++)
-        if (o->waiters.at[i] == t) return;
-    *PUSH(o->waiters) = t;
+static void add_reader(object *o, u32 t) {
+    for (u64 i = 0; i < o->readers.count; i++)
+        if (o->readers.at[i] == t) return;
+    *PUSH(o->readers) = t;
 }
 
 /* ---- memory orders: who takes what from whom; the same in the third and the fourth pass ---- */
@@ -186,6 +185,20 @@ static void pass_fence(u64 i, handing hand) {
     if (releases(i)) threads[thread_of(i)].is_fenced = 1;
 }
 
+/* t takes what all posts give that it hasn't: of each other thread the last one since its wait before. */
+static void take_posts(object *o, u32 t, handing hand, u64 caller) {
+    static u64 waits;
+    u32 *last = seen_by(o, t), first = *last;
+    waits++;
+    *last = o->posters.count;
+    for (u32 k = *last; k > first; k--) {
+        const u32 poster = o->posters.at[k - 1];
+        if (poster == t || threads[poster].taken_by == waits) continue;
+        threads[poster].taken_by = waits;
+        hand(o, k, t, caller);
+    }
+}
+
 /* ---- 3: who uses and who reads what ---- */
 /* A store passes what it gives to each of its takers by a lock of these two alone, so that no taker orders
    another. For this the takers of each version are found first. */
@@ -236,10 +249,8 @@ void share_object(u64 i) {
         o->holder = 0;
         new_version(o, t);
         break;
-    case OP_WAIT:
-        add_waiter(o, t);
-        o->first_waiters = o->waiters.count;
-        break;
+    case OP_POST: *PUSH(o->posters) = t; break;
+    case OP_WAIT: take_posts(o, t, add_taker, 0); break;
     case OP_BARRIER_INIT:
         if (o->count && o->count != size_of(i)) o->recounted = 1;
         o->count = size_of(i);
@@ -254,9 +265,8 @@ void share_object(u64 i) {
 
 void forget_states(void) {
     EACH(o, objects.at, objects.numbers.count) {
-        o->depth = o->holder = o->version = o->head = o->posts = o->arrivals = o->writer = 0;
-        o->gifts.count = 0;
-        o->waiters.count = o->first_waiters;
+        o->depth = o->holder = o->version = o->head = o->arrivals = o->writer = 0;
+        o->gifts.count = o->posters.count = o->readers.count = 0;
     }
     if (seen.at) memset(seen.at, 0, seen.numbers.count * sizeof *seen.at);
 }
@@ -419,11 +429,11 @@ static void pass_lock(object *o, u32 t, which w, u64 caller) {
     leave_lock(o, t, w, caller);
 }
 
-static void publish(object *o, u32 t, u64 caller) {
-    u32 number = map_find(&version_readers.numbers, index_of(o), o->version);
+static void publish(object *o, u32 version, u32 t, u64 caller) {
+    u32 number = map_find(&version_readers.numbers, index_of(o), version);
     const list_entry *reader = number ? entry_of_list(version_readers.at[number - 1]) : 0;
     for (; reader; reader = entry_of_list(reader->next))
-        pass_lock(o, t, to_thread(o->version, reader->thread), caller);
+        pass_lock(o, t, to_thread(version, reader->thread), caller);
 }
 
 static void receive(object *o, u32 t, u64 caller) {
@@ -447,43 +457,36 @@ static void atomic_events(u64 i, object *o) {
     int by_lock = is_by_lock(i) || (stores && gives(i));
     if (o->threads.many) note_use(i, index_of(o), gives(i));
     if (!stores) read_value(i, o, by_lock, take_version);
-    if (loads && acquires(i) && gives_all_on(o, t)) publish(o, t, caller);
+    if (loads && acquires(i) && gives_all_on(o, t)) publish(o, o->version, t, caller);
     if (!loads) write_value(i, o);
     if (by_lock) take_lock(o, t, of_version(o->head), caller);
     access_events(i);
     if (by_lock) leave_lock(o, t, of_version(o->head), caller);
-    if (!loads && gives(i)) publish(o, t, caller);
+    if (!loads && gives(i)) publish(o, o->version, t, caller);
 }
 
 static void write_lock_events(object *o, u32 t, u64 caller) {
     pass_lock(o, t, of_version(o->version), caller);
-    EACH(waiter, o->waiters.at, o->waiters.count) pass_lock(o, t, by_thread(o->version, *waiter), caller);
-    o->waiters.count = 0;
+    EACH(reader, o->readers.at, o->readers.count) pass_lock(o, t, by_thread(o->version, *reader), caller);
+    o->readers.count = 0;
     o->holder = t + 1;
 }
 
 static void rw_unlock_events(object *o, u32 t, u64 caller) {
     if (o->holder != t + 1) {          /* a reader */
         pass_lock(o, t, by_thread(o->version, t), caller);
-        add_waiter(o, t);
+        add_reader(o, t);
         return;
     }
     o->holder = 0;
     new_version(o, t);
     pass_lock(o, t, of_version(o->version), caller);
-    publish(o, t, caller);
+    publish(o, o->version, t, caller);
 }
 
 static void post_events(object *o, u32 t, u64 caller) {
-    o->posts++;
-    EACH(waiter, o->waiters.at, o->waiters.count)
-        if (*waiter != t) pass_lock(o, t, to_thread(o->posts, *waiter), caller);
-}
-
-static void wait_events(object *o, u32 t, u64 caller) {
-    u32 *last = seen_by(o, t);
-    for (u32 k = *last + 1; k <= o->posts && !cut_reason; k++) pass_lock(o, t, to_thread(k, t), caller);
-    *last = o->posts;
+    *PUSH(o->posters) = t;
+    publish(o, o->posters.count, t, caller);
 }
 
 /* rounds are told apart where no thread can skip one */
@@ -516,7 +519,7 @@ static void order_events(u64 i, object *o) {
     case OP_WRITE_LOCK: write_lock_events(o, t, caller); break;
     case OP_RW_UNLOCK: rw_unlock_events(o, t, caller); break;
     case OP_POST: post_events(o, t, caller); break;
-    case OP_WAIT: wait_events(o, t, caller); break;
+    case OP_WAIT: take_posts(o, t, take_version, caller); break;
     case OP_ARRIVE: arrive_events(o, t, caller); break;
     case OP_DEPART: pass_lock(o, t, of_version(*seen_by(o, t)), caller); break;
     case OP_ATOMIC_LOAD: case OP_ATOMIC_STORE: case OP_ATOMIC_UPDATE: atomic_events(i, o); break;

@@ -58,6 +58,7 @@ typedef struct {
     u64 unwritten, locks;
     VECTOR(note) notes;                /* what it will take at its next fence */
     int is_fenced;                     /* by a release fence */
+    u64 taken_by;                      /* the last wait that took a post of it */
     /* its last record, and the object that it gave something by that; plus one */
     u64 gave_at, gave;
 } thread_state;

@@ -247,6 +247,7 @@ FAULTS = {  # to plant in the converter: the file, what stands there, and what i
                                            "add_thread(&p->writers"),
     "fences": ("objects.c", "if (releases(i)) threads[thread_of(i)].is_fenced = 1;", ""),
     "what others gave is dropped": ("objects.c", "if (g->giver != t && g->version > last)", "if (0)"),
+    "a wait takes one post": ("objects.c", "threads[poster].taken_by == waits", "k < *last"),
     "more than gifts is given on": ("objects.c", " || threads[t].gave != index_of(o) + 1", ""),
     "no begin of a thread that did nothing": ("main.c", "if (!has_events(child) &&", "if (0 &&"),
     "half of what is freed": ("records.c", "MAX_FREED = 1024", "MAX_FREED = 512"),

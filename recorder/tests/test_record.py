@@ -340,7 +340,28 @@ class Omitted(recorder.Case):
         self.assertEqual(recorder.places(trace), {("0x102", "0x201")})
 
 
+POSTS = [  # a wait takes of each other thread the last one since its wait before
+    (entry(0, "FORK", 1, 0x101), ["main|fork(T1)|0x101"]),
+    (entry(1, "FORK", 2, 0x201), ["T1|fork(T2)|0x201"]),
+    (entry(0, "POST", SEMAPHORE, 0x102), []),
+    (entry(2, "POST", SEMAPHORE, 0x301), ["T2|acq(0x10000020@2>T1)|0x301", "T2|rel(0x10000020@2>T1)|0x301"]),
+    (entry(1, "POST", SEMAPHORE, 0x202), []),
+    (entry(0, "POST", SEMAPHORE, 0x103), ["main|acq(0x10000020@4>T1)|0x103",
+                                          "main|rel(0x10000020@4>T1)|0x103"]),
+    (entry(1, "WAIT", SEMAPHORE, 0x203), ["T1|acq(0x10000020@4>T1)|0x203", "T1|rel(0x10000020@4>T1)|0x203",
+                                          "T1|acq(0x10000020@2>T1)|0x203", "T1|rel(0x10000020@2>T1)|0x203"]),
+    (entry(1, "WAIT", SEMAPHORE, 0x204), []),
+    (entry(0, "POST", SEMAPHORE, 0x104), []),
+]
+
+
 class Held(recorder.Case):
+    def test_posts_that_are_taken(self):
+        record = self.folder / "app.rec"
+        record.write_bytes(HEADER + b"".join(entries for entries, _ in POSTS))
+        trace = recorder.must(recorder.convert(record)).stdout
+        self.assertEqual(trace.decode().splitlines(), [line for _, lines in POSTS for line in lines])
+
     def test_locks_that_are_held_at_an_access_are_in_the_trace(self):
         record = self.folder / "app.rec"
         record.write_bytes(HEADER + b"".join(entries for entries, _ in HELD))
