@@ -25,6 +25,7 @@ typedef struct {
     u32 count, users, arrivals;        /* of a barrier */
     uint8_t is_of_atomic, recounted;   /* recounted: begun again with another count */
     uint8_t foreign;                   /* released by another thread than took it */
+    u32 section;                       /* of a lock: its last critical section, of the third pass; or 0 */
     u32 writer;                        /* of a reader-writer lock: who has taken a hold to write, plus one */
 } object;
 
@@ -219,10 +220,25 @@ static void share_atomic(u64 i, object *o) {
 
 void share_fence(u64 i) { pass_fence(i, add_taker); }
 
+/* Of each acquire of a lock, in the order of the run: is there another thread's critical section right before
+   or behind its own? Else it takes nothing that its thread doesn't know, and its release gives nothing to
+   another one that the next section's doesn't. An acquire of a lock that the thread holds begins none. */
+static VECTOR(uint8_t) orders_others;
+static u64 acquires_met;               /* in this pass */
+
+static void share_acquire(object *o, u32 t, int is_again) {
+    *PUSH(orders_others) = 0;
+    if (is_again) return;
+    if (o->section && o->holder != t + 1)
+        orders_others.at[o->section - 1] = orders_others.at[orders_others.count - 1] = 1;
+    o->section = orders_others.count;
+}
+
 static void share_lock(object *o, u32 t, enum operation operation) {
     int taken = o->depth && o->holder == t + 1;
     if (operation == OP_LOCK) {
         if (o->depth && !taken) o->foreign = 1;
+        share_acquire(o, t, taken);
         o->holder = t + 1;
         o->depth++;
     } else if (operation == OP_UNLOCK) {
@@ -264,6 +280,7 @@ void share_object(u64 i) {
 }
 
 void forget_states(void) {
+    acquires_met = 0;
     EACH(o, objects.at, objects.numbers.count) {
         o->depth = o->holder = o->version = o->head = o->arrivals = o->writer = 0;
         o->gifts.count = o->posters.count = o->readers.count = 0;
@@ -298,9 +315,10 @@ static u32 lock_of(object *o, which w, u32 t) {
 }
 
 /* ---- 4: the locks that a thread holds, of those that the program has. The acquire of some tells a thread
-   nothing: of those of one thread alone; of reader-writer locks, whose order is told by locks of their own.
-   Such a lock is acquired in the trace right before its thread's next event, if there is one until the
-   release: so each lock that is held at an access in the trace is there. ---- */
+   nothing: of a lock whose sections right before and behind are of the thread too, or are none; of
+   reader-writer locks, whose order is told by locks of their own. Such a lock is acquired in the trace right
+   before its thread's next event, if there is one until the release: so each lock that is held at an access
+   in the trace is there. ---- */
 static u64 key_of(const object *o, which w) { return index_of(o) << 1 | (w.sign == 'r'); }
 static object *object_of_key(u64 key) { return &objects.at[key >> 1]; }
 static u32 lock_of_key(u64 key, u32 t) {
@@ -382,6 +400,14 @@ void each_held(held_lock give, const char *operation) {
     EACH(it, all.at, all.count) give(operation, it->thread, it->hold);
 }
 
+/* Does an operation order threads? */
+static int orders_threads(u64 i, const object *o) {
+    enum operation operation = operation_of(i);
+    const hold *h = operation == OP_UNLOCK ? hold_of(thread_of(i), key_of(o, own)) : 0;
+    int is_of_several = operation == OP_LOCK ? orders_others.at[acquires_met++] : !h || h->orders;
+    return whole_trace || (o->threads.many && (is_of_several || o->foreign));
+}
+
 /* What an operation means for these, before and after its other events. */
 static void holds_before(u64 i, object *o, int is_private) {
     u32 t = thread_of(i);
@@ -415,7 +441,8 @@ static u32 use_lock(object *o, u32 t, const char *operation, which w, u64 caller
 static void take_lock(object *o, u32 t, which w, u64 caller) {
     u32 lock = use_lock(o, t, "acq", w, caller);
     u64 key = w.sign ? ONLY_ORDERS | lock : key_of(o, w);
-    add_hold(t, (hold){key, own_place(t, caller), ++acquire_count, lock ? stack_at(t, caller) : 0, lock, 0});
+    u32 stack = lock ? stack_at(t, caller) : 0;
+    add_hold(t, (hold){key, own_place(t, caller), ++acquire_count, stack, lock, .orders = 1});
 }
 
 static void leave_lock(object *o, u32 t, which w, u64 caller) {
@@ -498,22 +525,14 @@ static void arrive_events(object *o, u32 t, u64 caller) {
     pass_lock(o, t, of_version(round), caller);
 }
 
-/* For a lock of several threads, which each of them releases itself. */
-static void lock_events(u64 i, object *o) {
-    u32 t = thread_of(i);
-    hold *h = operation_of(i) == OP_UNLOCK ? hold_of(t, key_of(o, own)) : 0;
-    if (operation_of(i) == OP_LOCK) take_lock(o, t, own, caller_of(i));
-    else if (h && !h->acquire) end_hold(t, h);
-    else leave_lock(o, t, own, caller_of(i));
-}
-
 static void order_events(u64 i, object *o) {
     u32 t = thread_of(i);
     u64 caller = caller_of(i);
     switch (operation_of(i)) {
     case OP_LOCK: case OP_UNLOCK:
         if (o->foreign) pass_lock(o, t, own, caller);
-        else lock_events(i, o);
+        else if (operation_of(i) == OP_LOCK) take_lock(o, t, own, caller);
+        else leave_lock(o, t, own, caller);
         break;
     case OP_READ_LOCK: receive(o, t, caller); break;
     case OP_WRITE_LOCK: write_lock_events(o, t, caller); break;
@@ -529,7 +548,7 @@ static void order_events(u64 i, object *o) {
 
 void object_events(u64 i) {
     object *o = object_of(i);
-    int orders = o->threads.many || whole_trace;
+    int orders = orders_threads(i, o);
     holds_before(i, o, !orders);
     if (!is_atomic(operation_of(i)) || !orders) access_events(i);
     if (orders) order_events(i, o);

@@ -35,8 +35,9 @@ typedef struct {
 } thread_calls;
 
 /* A lock that it holds. key: of one that the program has its object, and whether it is a reader's. Once its
-   acquire is in the trace lock is its number there, and acquire that of the acquire. */
-typedef struct { u64 key, caller, acquire; u32 stack, lock; uint8_t is_again; } hold;
+   acquire is in the trace lock is its number there, and acquire that of the acquire. orders: does that, or
+   its release, order threads? */
+typedef struct { u64 key, caller, acquire; u32 stack, lock; uint8_t is_again, orders; } hold;
 #define ONLY_ORDERS (1ull << 63)       /* in the key of a lock of the trace's own */
 
 typedef struct { u32 object, version; } note;

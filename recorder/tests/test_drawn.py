@@ -234,8 +234,11 @@ FAULTS = {  # to plant in the converter: the file, what stands there, and what i
     "late": ("late.c", "u64 order = late[k] >> NUMBER_BITS;", "u64 order = k - from;"),
     "list_name": ("events.c", "        part name = variable_name(p->at, block", "        part name = "
                   "variable_name(p->at & ~1ul, block"),
-    "shared_lock": ("objects.c", "    int orders = o->threads.many || whole_trace;", "    int orders = "
-                    "whole_trace || is_atomic(operation_of(i));"),
+    "shared_lock": ("objects.c", "(o->threads.many && (", "(is_atomic(operation) && ("),
+    "the last section before another thread's": ("objects.c", "orders_others.at[o->section - 1] = orders",
+                                                 "orders"),
+    "the first section behind another thread's": ("objects.c", "= orders_others.at[orders_others.count - 1] "
+                                                  "= 1;", "= 1;"),
     "an atomic read stands for a plain one": ("accesses.c", " | (u32)u->reads << 31", ""),
     "repeats": ("accesses.c", " && last->writes == this.writes", ""),
     "every write is the last": ("accesses.c", "if (i < p->last_write) {", "if (0) {"),
