@@ -63,13 +63,6 @@ static u32 *seen_by(const object *o, u32 t) { return &sight_of(o, t)->last; }
 
 static void new_version(object *o, u32 t) { *seen_by(o, t) = ++o->version; }
 
-static int sees_version(object *o, u32 t) {                  /* for the first time */
-    u32 *last = seen_by(o, t);
-    if (*last == o->version) return 0;
-    *last = o->version;
-    return 1;
-}
-
 static void add_reader(object *o, u32 t) {
     for (u64 i = 0; i < o->readers.count; i++)
         if (o->readers.at[i] == t) return;
@@ -186,6 +179,12 @@ static void pass_fence(u64 i, handing hand) {
     if (releases(i)) threads[thread_of(i)].is_fenced = 1;
 }
 
+/* t takes what the last writer gave, if it hasn't. */
+static void take_newest(object *o, u32 t, handing hand, u64 caller) {
+    u32 *last = seen_by(o, t);
+    if (*last != o->version) hand(o, *last = o->version, t, caller);
+}
+
 /* t takes what all posts give that it hasn't: of each other thread the last one since its wait before. */
 static void take_posts(object *o, u32 t, handing hand, u64 caller) {
     static u64 waits;
@@ -205,10 +204,6 @@ static void take_posts(object *o, u32 t, handing hand, u64 caller) {
    another. For this the takers of each version are found first. */
 static void add_taker(object *o, u32 version, u32 t, u64 unused) {
     add_to_list(ENTRY(version_readers, index_of(o), version), t);
-}
-
-static void will_read(object *o, u32 t) {
-    if (sees_version(o, t)) add_taker(o, o->version, t, 0);
 }
 
 static void share_atomic(u64 i, object *o) {
@@ -258,7 +253,7 @@ void share_object(u64 i) {
     switch (operation) {
     case OP_LOCK: case OP_UNLOCK: case OP_LOCK_INIT: share_lock(o, t, operation); break;
     case OP_ATOMIC_LOAD: case OP_ATOMIC_STORE: case OP_ATOMIC_UPDATE: share_atomic(i, o); break;
-    case OP_READ_LOCK: will_read(o, t); break;
+    case OP_READ_LOCK: take_newest(o, t, add_taker, 0); break;
     case OP_WRITE_LOCK: o->holder = t + 1; break;
     case OP_RW_UNLOCK:
         if (o->holder != t + 1) break;
@@ -463,10 +458,6 @@ static void publish(object *o, u32 version, u32 t, u64 caller) {
         pass_lock(o, t, to_thread(version, reader->thread), caller);
 }
 
-static void receive(object *o, u32 t, u64 caller) {
-    if (sees_version(o, t)) pass_lock(o, t, to_thread(o->version, t), caller);
-}
-
 static void take_version(object *o, u32 version, u32 t, u64 caller) {
     pass_lock(o, t, to_thread(version, t), caller);
 }
@@ -534,7 +525,7 @@ static void order_events(u64 i, object *o) {
         else if (operation_of(i) == OP_LOCK) take_lock(o, t, own, caller);
         else leave_lock(o, t, own, caller);
         break;
-    case OP_READ_LOCK: receive(o, t, caller); break;
+    case OP_READ_LOCK: take_newest(o, t, take_version, caller); break;
     case OP_WRITE_LOCK: write_lock_events(o, t, caller); break;
     case OP_RW_UNLOCK: rw_unlock_events(o, t, caller); break;
     case OP_POST: post_events(o, t, caller); break;
