@@ -197,7 +197,7 @@ static u64 kind_of_read(u64 i, use *u, u32 number) {
    locks and orders don't matter. A place is a location: of two reads in one line the second repeats the
    first. */
 static int repeats(u64 i, use *u, u32 number) {
-    enum { RECENT = 1 << 18 };
+    enum { RECENT = 1 << 14 };
     typedef struct { u64 kind, epoch, locks; u32 piece, writes; } read;
     static read *recent;
     if (!recent) recent = zeroed(RECENT, sizeof *recent);

@@ -166,7 +166,7 @@ class Decided(recorder.Case):
                              recorder.must(recorder.convert(path)).stdout, seed)
 
 
-MANY = 2**18 + 1  # variables; tables of recent ones have 2**16 and 2**18
+MANY = 2**16 + 1  # variables; tables of recent ones have 2**16 and 2**14
 
 
 def is_right_of_many(folder, converter):
