@@ -102,14 +102,24 @@ static void know_file(int f) {
 }
 
 static void note_descriptor(enum operation operation, void *what, uint64_t caller) {
-    if (!others) return;
-    note(operation, what, caller);
-    let_others_run();
+    if (others) note(operation, what, caller);
+}
+
+/* Before a call that may wait: one of a descriptor that never waits keeps the turn. */
+static void let_others_run_at(int f) {
+    if (others && recording && !(syscall(SYS_fcntl, f, F_GETFL) & O_NONBLOCK)) let_others_run();
+}
+
+static void note_sent(int f, uint64_t caller) {
+    note_descriptor(OP_POST, data_of(f), caller);
+    let_others_run_at(f);
 }
 
 void note_transfer(enum operation operation, int f, uint64_t caller) {
     void *data = data_of(f);
-    if (is_small(f) && (pair_of[f] || key_of[f])) note_descriptor(operation, data, caller);
+    if (!is_small(f) || !(pair_of[f] || key_of[f])) return;
+    if (operation == OP_POST) note_sent(f, caller);
+    else note_descriptor(operation, data, caller);
 }
 
 /* ---- what is read and written goes through memory of the program's ---- */
@@ -145,13 +155,14 @@ static void note_message(uint64_t seen, enum operation operation, const struct m
     PUBLIC type name parameters { \
         uint64_t seen __attribute__((unused)) = begin_call(CALLER); \
         accesses; \
-        note_descriptor(OP_POST, data_of(f), CALLER); \
+        note_sent(f, CALLER); \
         return REAL(name) arguments; \
     }
 #define RECEIVES(type, name, parameters, arguments, accesses) \
     PUBLIC type name parameters { \
-        let_others_run(); \
+        let_others_run_at(f); \
         type r = REAL(name) arguments; \
+        if (r < 0) let_others_run();   /* one of them may have to send it first */ \
         if (r < 0) return r; \
         note_descriptor(OP_WAIT, data_of(f), CALLER); \
         uint64_t seen = begin_call(CALLER); \
@@ -173,7 +184,10 @@ SENDS(ssize_t, sendto, (int f, const void *p, size_t n, int k, const struct sock
 SENDS(int, sendmmsg, (int f, struct mmsghdr *m, unsigned n, int k), (f, m, n, k),
       for (unsigned i = 0; i < least(n, IOV_MAX); i++) note_message(seen, OP_READ, &m[i].msg_hdr, MOST_BYTES))
 SENDS(int, eventfd_write, (int f, eventfd_t value), (f, value), )
-SENDS(int, epoll_ctl, (int f, int o, int g, struct epoll_event *e), (f, o, g, e), )
+PUBLIC int epoll_ctl(int f, int o, int g, struct epoll_event *e) {
+    note_descriptor(OP_POST, data_of(f), CALLER);
+    return REAL(epoll_ctl)(f, o, g, e);
+}
 RECEIVES(ssize_t, read, (int f, void *p, size_t n), (f, p, n), GETS_BYTES(r))
 RECEIVES(int, eventfd_read, (int f, eventfd_t *p), (f, p), GETS_BYTES(sizeof *p))
 RECEIVES(ssize_t, readv, (int f, const struct iovec *p, int n), (f, p, n), GETS_PIECES)
@@ -215,7 +229,7 @@ GIVES_NUMBER(accept4, KNOW_ACCEPTED, (int f, struct sockaddr *a, socklen_t *n, i
 GIVES_NUMBER(socket, , (int d, int k, int p), (d, k, p))
 GIVES_NUMBER(eventfd, , (unsigned v, int k), (v, k))
 PUBLIC int connect(int f, const struct sockaddr *a, socklen_t n) {
-    note_descriptor(OP_POST, data_of(f), CALLER);
+    note_sent(f, CALLER);
     if (is_small(f)) connects[f] = 1;
     int r = REAL(connect)(f, a, n);
     if (is_small(f)) is_known[f] = 0;  /* it may still come about */
