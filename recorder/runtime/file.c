@@ -147,15 +147,14 @@ static int may_have(uint64_t bytes) {  /* past the limit of a file's size a sign
     return 0;
 }
 
+/* Zeros are written: so the pages are there, by large pieces, and need neither a read nor a fault each. */
 int add_space(enum kept_file which, uint64_t from, uint64_t bytes) {
     static const char zeros[1 << 16];
     if (!have(which) || !may_have(from + bytes)) return 0;
-    int file = kept[which].number;
-    if (syscall(SYS_fallocate, file, 0, from, bytes) == 0) return 1;
-    if (errno != EOPNOTSUPP && errno != ENOSYS) return 0;
-    /* this file system has no such call */
+    int file = kept[which].number, has_call = !syscall(SYS_fallocate, file, 0, from, bytes);
+    if (!has_call && errno != EOPNOTSUPP && errno != ENOSYS) return 0;      /* some file systems haven't it */
     for (uint64_t at = from; at < from + bytes; at += sizeof zeros)
-        if (syscall(SYS_pwrite64, file, zeros, sizeof zeros, at) != sizeof zeros) return 0;
+        if (syscall(SYS_pwrite64, file, zeros, least(sizeof zeros, from + bytes - at), at) <= 0) return 0;
     return 1;
 }
 

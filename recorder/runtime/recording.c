@@ -7,7 +7,7 @@
 #include <sys/sysinfo.h>
 
 /* the file grows by so much; the record of a child has so much in memory */
-#define STEP_BYTES (4 << 20)
+enum { STEP_BYTES = 512 << 10, CHILD_BYTES = 4 << 20 };
 
 int stall_seconds;
 static char *header;
@@ -459,7 +459,7 @@ int leave_recording(void) {
     if (self) forget_told(self);
     forget_held();
     begin_counting(0);
-    atomic_store(&room, STEP_BYTES / sizeof *records);
+    atomic_store(&room, CHILD_BYTES / sizeof *records);
     munmap(parents, map_bytes());
     return going_on;
 }

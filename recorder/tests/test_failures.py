@@ -81,20 +81,20 @@ class Failures(recorder.Case):
         return self.folder / "app"
 
     def test_a_tenth_of_the_disk_is_left(self):
-        """Of 21 MiB more than 2 are left: so the record gets 4 times 4 MiB. With 12 of them it has more
-        than the half."""
+        """Of 21 MiB more than 2 are left, and 1 is the list of turns': so the record gets 35 times half a
+        MiB. With 9 MiB it has more than the half."""
         path, program = self.folder / "app.rec", self.very_long_run()
         how = recorder.settings(path, LD_PRELOAD=str(self.refusing()), FREE_SPACE=str(21 << 20),
                                 SHB_CELLS="0")
         half, end = recorder.must(recorder.call(program, env=how)).stderr.decode().splitlines()
-        self.assertRegex(half, r"\Ashb recorder: half of the room for the record is used: it has 12 MB, and "
-                               r"ends after \d MB more ")
+        self.assertRegex(half, r"\Ashb recorder: half of the room for the record is used: it has 9 MB, and "
+                               r"ends after 8 MB more ")
         self.assertEqual(end, "shb recorder: no disk space for the record (No space left on device); the "
                               "recording ends here, the program goes on")
         answer = recorder.part(recorder.convert(path))
         self.assertIn(b"is not the whole run: no disk space for the record (No space left on device)",
                       answer.stderr)
-        written, whole = int(re.search(rb"shb-std: (\d+) records", answer.stderr)[1]), (16 << 20) // 16
+        written, whole = int(re.search(rb"shb-std: (\d+) records", answer.stderr)[1]), (35 << 19) // 16
         self.assertTrue(whole - 10 <= written <= whole, written)
 
     def test_a_given_number_of_records_takes_all_of_the_disk(self):
@@ -103,14 +103,14 @@ class Failures(recorder.Case):
                                 SHB_CELLS="0", SHB_RECORDS="1200000")
         ran = recorder.must(recorder.call(program, env=how))
         self.assertEqual(ran.stderr.decode().splitlines(), [
-            "shb recorder: half of the room for the record is used: it has 12 MB, and ends after 6 MB more "
+            "shb recorder: half of the room for the record is used: it has 9 MB, and ends after 8 MB more "
             "(SHB_RECORDS, disk space)",
             "shb recorder: SHB_RECORDS is reached; the recording ends here, the program goes on"])
 
     def test_a_disk_that_is_full_later(self):
         refuse, path = self.refusing(), self.folder / "app.rec"
         program = self.program("long_run.c")
-        for request, records in ((2, 0), (3, (4 << 20) // 16)):  # the first is the header's
+        for request, records in ((2, 0), (3, (1 << 19) // 16)):  # the first is the header's
             how = recorder.settings(path, LD_PRELOAD=str(refuse), REFUSE_SPACE=str(request), SHB_CELLS="0")
             ran = recorder.must(recorder.call(program, env=how))
             self.assertIn(b"no disk space for the record (No space left on device); the recording ends here",
