@@ -136,11 +136,12 @@ int copy_in(void *to, const void *from, size_t bytes) {
 /* As many bytes of several pieces of memory, in their order. */
 static void note_pieces(uint64_t seen, enum operation operation, const struct iovec *pieces, size_t count,
                         size_t bytes) {
-    struct iovec piece;
-    for (size_t i = 0; seen && i < count && i < IOV_MAX && bytes
-         && copy_in(&piece, &pieces[i], sizeof piece); i++) {
-        size_t part = least(piece.iov_len, bytes);
-        note_range(seen, operation, piece.iov_base, part);
+    struct iovec some[16];
+    if (!seen) return;
+    for (size_t i = 0, k = 0; i < least(count, IOV_MAX) && bytes; i++, k = i % 16) {
+        if (!k && !copy_in(some, &pieces[i], least(count - i, 16) * sizeof *some)) return;
+        size_t part = least(some[k].iov_len, bytes);
+        note_range(seen, operation, some[k].iov_base, part);
         bytes -= part;
     }
 }
