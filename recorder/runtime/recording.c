@@ -159,14 +159,16 @@ static int has_room(uint64_t count) {
     return end <= most_records && end <= atomic_load_explicit(&room, memory_order_relaxed);
 }
 
-/* While a thread works: afterwards there is room for so many records, or it returns 0. */
-static int make_room(uint64_t count) {
+static __attribute__((noinline)) int grow_for(uint64_t count) {
     while (recording && !has_room(count)) {
         if (written + count > most_records) stop_recording("SHB_RECORDS is reached");
         else grow();
     }
     return recording;
 }
+
+/* While a thread works: afterwards there is room for so many records, or it returns 0. */
+static inline int make_room(uint64_t count) { return recording && (has_room(count) || grow_for(count)); }
 
 /* Those of the functions that the thread is in that the record hasn't. */
 static void add_contexts(thread *t) {
@@ -259,8 +261,9 @@ static void put_now(thread *t, enum operation operation, pointer address, uint64
     struct record r = record_of(t, operation, (uint64_t)address, inside, caller);
     if (is_held_back(t, operation, r, bytes_of(operation, size))
         || (only_reads(operation) && is_repeated(t, r)) || !make_room(ROOM)) return;
-    tell_context(t, t->in, inside >> LOGARITHM_BITS == DEPTH_BEFORE
-                 || !has_depth_inside(operation, size));
+    if (t->told != t->in)
+        tell_context(t, t->in, inside >> LOGARITHM_BITS == DEPTH_BEFORE
+                     || !has_depth_inside(operation, size));
     uint64_t way = is_plain(operation) ? 0 : way_to(t, t->depth, caller);
     if (way) add(t, OP_WAY, 0, 0, way);
     records[written++] = r;

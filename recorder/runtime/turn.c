@@ -56,8 +56,8 @@
 #define SLICES_OF_A_SCALE 64           /* are twice as long after so many, and end with */
 #define LEAST_LAST_SLICE 100           /* 100, 200 or 400: to hand the turn over costs some 50 hooks */
 #define LAST_SLICES 3
-/* so many take as much of a long slice as another one: no other thread has use of them */
-#define QUICK_HOOKS 16
+/* 1 << this take as much of a long slice as another one: no other thread has use of them */
+#define LOG_QUICK_HOOKS 4
 #define MOST_STARTS 64                 /* the first threads with which they begin anew */
 #define SLICES_HELD 4                  /* on average */
 
@@ -410,12 +410,12 @@ int waits_for_list(thread *t) {
 }
 
 /* ---- hooks ---- */
-/* How many quick ones take as much of the slice as another one. */
-static int quick_share(void) { return is_replaying || given_slice || are_slices_short() ? 1 : QUICK_HOOKS; }
+/* How many quick ones take as much of the slice as another one; by its logarithm, as divisions are slow. */
+static int log_share(void) { return is_replaying || given_slice || are_slices_short() ? 0 : LOG_QUICK_HOOKS; }
 
 /* Where a hook begins: afterwards its step is no quick one. */
 static void count_quick(thread *t) {
-    t->quantum -= (t->steps - t->quick_from) / quick_share();
+    t->quantum -= (t->steps - t->quick_from) >> log_share();
     t->quick_from = t->steps;
     if (t->limit) t->kept = t->steps;
     KEEP_ORDER();
@@ -438,7 +438,7 @@ void end_inside(thread *t) {
 /* At the end of a hook: the next ones may be quick until the slice ends or, if nobody waits, for a while. */
 static void let_be_quick(thread *t) {
     uint64_t most = t->is_cancelled_anywhere ? 0 : begin_quick(t),
-        left = t->quantum > 1 ? (uint64_t)(t->quantum - 1) * quick_share() : 0;
+        left = t->quantum > 1 ? (uint64_t)(t->quantum - 1) << log_share() : 0;
     if (!left && !waiters && !is_replaying) left = LEAST_LAST_SLICE;
     if (left > most) left = most;
     t->limit = left ? t->steps + left : 0;
