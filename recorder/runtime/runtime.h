@@ -72,7 +72,7 @@ typedef struct thread {
     pid_t system_id;
     pthread_t handle;
     _Atomic int wakes;                 /* futex: raised to make the thread look at the turn again */
-    _Atomic char began;                /* it was at its first hook */
+    _Atomic int began;                 /* it was at its first hook; a futex */
     char may_be_held;                  /* there */
     int quantum;                       /* hooks until it gives the turn to a waiter */
     int spins;                         /* how often in a row its last hook left the value as it was */
@@ -132,7 +132,7 @@ void end_thread(thread *t);            /* it is joined, and the record has that;
 enum way_to_end { IS_DETACHED = 1, LEAVES = 2 };             /* LEAVES: its last destructors run */
 void come_to_end(thread *t, enum way_to_end way);            /* after both it is over as soon as it is gone */
 int number_thread(thread *t);
-void wait_for_start(const thread *child);
+void wait_for_start(thread *t, thread *child);
 thread *thread_of(pthread_t handle);
 thread *newest_with(void *argument);   /* that isn't over */
 thread *enter(enum yields yields);

@@ -287,7 +287,7 @@ static int create_in_hook(thread *t, thread start, pthread_t *handle, const pthr
     put(t, OP_FORK, (void *)(uint64_t)child->number, 0, caller);
     pthread_t created;                 /* the caller's only when it is known: others may read that */
     int error = start_blocked(t, child, &created, attributes);
-    if (!error) wait_for_start(child);
+    if (!error) wait_for_start(t, child);
     keep_turn_after_call(t);
     if (error) others--, end_thread(child);
     else *handle = child->handle = created;

@@ -226,14 +226,19 @@ static int take_free(thread *t) {
     if (!done) waiting[waiters++] = t;
     if (is_first) held = !held && !done && t->may_be_held ? t : 0;
     unlock_guard();
-    if (is_first) atomic_store(&t->began, 1);
+    if (!is_first) return done;
+    atomic_store(&t->began, 1);
+    syscall(SYS_futex, &t->began, FUTEX_WAKE_PRIVATE, 1, 0, 0, 0);
     return done;
 }
 
-/* Waits until a new thread is at its first hook.  It doesn't sleep, or a waiter would take the turn over. */
-void wait_for_start(const thread *child) {
-    time_t end = seconds_now() + START_SECONDS;
-    while (recording && !child->began && are_slices_short() && seconds_now() <= end) syscall(SYS_sched_yield);
+/* Waits until a new thread is at its first hook.  It may sleep: so it works, or a waiter would take the turn
+   over. */
+void wait_for_start(thread *t, thread *child) {
+    t->works = 1;
+    if (recording && are_slices_short())
+        syscall(SYS_futex, &child->began, FUTEX_WAIT_PRIVATE, 0, &(struct timespec){START_SECONDS, 0}, 0, 0);
+    t->works = 0;
 }
 
 /* The waiter's last step, and the end of its doubt: takes the turn if its word is still the one seen; also
