@@ -125,6 +125,11 @@ static key key_at(cell *c, int k) {
 static int is_used(key key) { return key.use && *key.use; }
 static int is_held(key key) { return *key.use && *key.word; }
 
+/* Is there memory for one, without a call of the system? */
+static int has_table(int log) {
+    return log <= MOST_LOG && (free_tables[log] || key_pool.left >= sizeof(key_line) << (log - 1));
+}
+
 static key_line *new_table(int log) {
     uint64_t bytes = sizeof(key_line) << (log - 1);
     key_line *table = free_tables[log];
@@ -198,7 +203,12 @@ static int grow_keys(cell *c) {
 static int is_full(const cell *c) {
     return c->used >= (c->log_lines ? (KEYS_OF_LINE - 1) << (c->log_lines - 1) : KEYS);
 }
-static int has_free_key(cell *c) { return !is_full(c) || grow_keys(c); }
+
+/* That of a use which the cell hasn't, in a larger table if it is full; or null. */
+static uint64_t *add_key(cell *c, key free, uint32_t use, uint64_t word) {
+    if (!is_full(c)) return fill_key(c, free, use, word);
+    return grow_keys(c) ? insert_key(c, use, word) : 0;
+}
 
 /* ---- pages ---- */
 /* Null where nothing of it is known; with `make` where there is no memory. */
@@ -307,10 +317,7 @@ static int replace_key(cell *c, uint64_t address, uint32_t use, uint64_t word) {
 /* The owner's first use of this kind, in this phase or since it was forgotten. Is it held back? */
 static int hold_new(cell *c, uint64_t address, key free, uint32_t use, uint64_t word) {
     word = c->is_first ? word_after(0, word) : NO_POSITION;
-    if (!is_full(c)) fill_key(c, free, use, word);
-    else if (grow_keys(c)) insert_key(c, use, word);
-    else return replace_key(c, address, use, word) && c->is_first;
-    return c->is_first;
+    return (add_key(c, free, use, word) || replace_key(c, address, use, word)) && c->is_first;
 }
 
 /* Is a use of the cell's owner or of one of its readers held back? Right after the same one, with nothing
@@ -327,6 +334,7 @@ static int hold_in_cell(cell *c, uint64_t address, cell_use use, uint64_t word) 
 }
 
 uint64_t *word_of_use(cell *c, uint64_t address, uint32_t serial, uint16_t number, cell_use use) {
+    if (c->owner && c->owner != serial && c->owner != READERS) return 0;
     uint32_t slot = slot_of_use(use.what, use.from);
     if (!is_same(cell_uses[slot], use)) return 0;
     cell_page *page = c->owner ? 0 : page_at(address, 0);
@@ -336,9 +344,9 @@ uint64_t *word_of_use(cell *c, uint64_t address, uint32_t serial, uint16_t numbe
     }
     key found = c->owner == serial || c->owner == READERS ? find_key(c, slot) : (key){0};
     if (is_used(found)) return found.word;
-    if (c->owner != serial || !c->is_first || is_full(c)) return 0;
+    if (c->owner != serial || !c->is_first || (is_full(c) && !has_table(c->log_lines + 1))) return 0;
     c->is_only_read &= is_read(use.what);
-    return fill_key(c, found, slot, 0);
+    return add_key(c, found, slot, 0);
 }
 
 /* ---- phases of several readers ---- */
@@ -431,8 +439,8 @@ static inline uint64_t *known_word(cell *c, cell_use use) {
 /* The word of a use that the cell gets, if it hasn't it; null if it is in no first phase, or has no room. */
 static uint64_t *new_word(cell *c, cell_use use) {
     uint32_t number = c->is_first ? number_of_use(use) : 0;
-    uint64_t *word = number ? find_word(c, number) : 0;
-    return !word && number && has_free_key(c) ? insert_key(c, number, 0) : word;
+    key found = number ? find_key(c, number) : (key){0};
+    return is_used(found) ? found.word : number ? add_key(c, found, number, 0) : 0;
 }
 
 static inline __attribute__((always_inline))

@@ -113,7 +113,7 @@ void limit_cells(uint64_t bytes);      /* takes no more than so many from here o
 enum { IS_HELD = 1, IS_HELD_ALREADY };
 int hold_back(uint32_t serial, struct record r, uint64_t bytes, uint64_t kind, uint64_t word);
 /* The word of a use in a cell, by its owner or one of its readers: it is held back by a new word. Null where
-   it may not be, where that needs a record or memory, or the use has no number yet. */
+   it may not be, where that needs a record or more memory, or the use has no number yet. */
 uint64_t *word_of_use(cell *c, uint64_t address, uint32_t serial, uint16_t number, cell_use use);
 /* The words of an access of several cells, whose use in the first one this is, if each has it: how many, or
    0. Then all are in their first phase, and it is held back by a new word in each. */
