@@ -163,12 +163,6 @@ static inline key find_key(cell *c, uint32_t use) {
     return (key){0};
 }
 
-/* The word of a use, or null. */
-static uint64_t *find_word(cell *c, uint32_t use) {
-    key found = find_key(c, use);
-    return is_used(found) ? found.word : 0;
-}
-
 static uint64_t *fill_key(cell *c, key free, uint32_t use, uint64_t word) {
     c->used++;
     *free.use = use;
@@ -287,13 +281,9 @@ static void put_held(const cell *c, key key, uint64_t address) {
     put_late((struct record){first | (uint64_t)number << 48, use->what ^ byte << FIRST_BYTE}, *key.word);
 }
 
-static void put_all_held(cell *c, uint64_t address) {
+static void begin_phase(cell_page *page, cell *c, uint64_t address, uint32_t serial, uint16_t number) {
     for (int k = 0, count = key_count(c); k < count; k++)
         if (is_held(key_at(c, k))) put_held(c, key_at(c, k), address);
-}
-
-static void begin_phase(cell_page *page, cell *c, uint64_t address, uint32_t serial, uint16_t number) {
-    put_all_held(c, address);
     free_table(c);
     int is_first = !c->owner && !is_freed(page, address);
     *c = (cell){.owner = serial, .number = number, .is_first = is_first};
@@ -433,7 +423,8 @@ static void use_range(uint32_t serial, uint16_t number, uint64_t address, uint64
 /* The word of a use that a cell has already, most are where the search for it begins; or null. */
 static inline uint64_t *known_word(cell *c, cell_use use) {
     uint32_t slot = slot_of_use(use.what, use.from);
-    return is_same(cell_uses[slot], use) ? find_word(c, slot) : 0;
+    key found = is_same(cell_uses[slot], use) ? find_key(c, slot) : (key){0};
+    return is_used(found) ? found.word : 0;
 }
 
 /* The word of a use that the cell gets, if it hasn't it; null if it is in no first phase, or has no room. */
