@@ -332,7 +332,7 @@ uint64_t *word_of_use(cell *c, uint64_t address, uint32_t serial, uint16_t numbe
         begin_phase(page, c, address, serial, number);
         c->is_only_read = 1;
     }
-    key found = c->owner == serial || c->owner == READERS ? find_key(c, slot) : (key){0};
+    key found = find_key(c, slot);
     if (is_used(found)) return found.word;
     if (c->owner != serial || !c->is_first || (is_full(c) && !has_table(c->log_lines + 1))) return 0;
     c->is_only_read &= is_read(use.what);

@@ -127,8 +127,9 @@ enum { MOST_BYTES = 0x7ffff000 };      /* that the kernel takes at once */
 
 /* On the stack between this function and the thread's first one all is there. */
 static int is_in_use(const void *from, size_t bytes) {
-    uint64_t p = (uint64_t)from, here = (uint64_t)__builtin_dwarf_cfa(), low = self ? (uint64_t)self->stack : 0;
-    return low && here > low && p >= here && bytes < self->stack_size && p <= low + self->stack_size - bytes;
+    uint64_t p = (uint64_t)from, here = (uint64_t)__builtin_dwarf_cfa();
+    uint64_t low = self ? (uint64_t)self->stack : ~0ull, end = self ? low + self->stack_size : 0;
+    return here > low && p >= here && p < end && bytes <= end - p;
 }
 
 int copy_in(void *to, const void *from, size_t bytes) {

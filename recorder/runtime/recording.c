@@ -261,9 +261,8 @@ static void put_now(thread *t, enum operation operation, pointer address, uint64
     struct record r = record_of(t, operation, (uint64_t)address, inside, caller);
     if (is_held_back(t, operation, r, bytes_of(operation, size))
         || (only_reads(operation) && is_repeated(t, r)) || !make_room(ROOM)) return;
-    if (t->told != t->in)
-        tell_context(t, t->in, inside >> LOGARITHM_BITS == DEPTH_BEFORE
-                     || !has_depth_inside(operation, size));
+    int is_exact = inside >> LOGARITHM_BITS == DEPTH_BEFORE || !has_depth_inside(operation, size);
+    if (t->told != t->in) tell_context(t, t->in, is_exact);
     uint64_t way = is_plain(operation) ? 0 : way_to(t, t->depth, caller);
     if (way) add(t, OP_WAY, 0, 0, way);
     records[written++] = r;

@@ -245,8 +245,8 @@ FOUND_IN_DRAWN = 5
 FAULTS = {  # to plant: the file, what stands there, and what in its place
     "each phase counts as the first": ("cells.c", "int is_first = !c->owner && !is_freed(page, address);",
                                        "int is_first = 1;"),
-    "the last use of a phase isn't recorded": ("cells.c", "    put_all_held(c, address);\n    "
-                                                          "free_table(c);\n", "    free_table(c);\n"),
+    "the last use of a phase isn't recorded": ("cells.c", "        if (is_held(key_at(c, k))) put_held(c, "
+                                                          "key_at(c, k), address);\n", "        ;\n"),
     "the position is that of the first use": (
         "cells.c", "    *found.word = word_after(*found.word, word);\n", ""),
     "the position is where it is recorded": ("hold_back.c", "{word & (IS_REPEATED | POSITIONS), ",
@@ -302,13 +302,12 @@ FAULTS = {  # to plant: the file, what stands there, and what in its place
         "cells.c", "if (!c->owner && !is_freed(page, address)) {", "if (!c->owner) {\n        "
                                                                    "page->freed[number_in_page(address) / "
                                                                    "64] = 0;"),
-    "a use is new in a quick hook of a later phase": ("cells.c", "!c->is_first || is_full(c)) return 0;",
-                                                      "is_full(c)) return 0;"),
+    "a use is new in a quick hook of a later phase": ("cells.c", "!c->is_first || (is_full(c)",
+                                                      "(is_full(c)"),
     "a write in a quick hook leaves a phase of reads": ("cells.c", "    c->is_only_read &= "
                                                                    "is_read(use.what);\n", ""),
     "a quick hook takes another thread's cell": (
-        "cells.c", "c->owner == serial || c->owner == READERS ? find_key(c, slot) : (key){0};",
-        "find_key(c, slot);"),
+        "cells.c", "    if (c->owner && c->owner != serial && c->owner != READERS) return 0;\n", ""),
     "a range that is repeated keeps its first position": ("cells.c", "k < count; k++) *words[k] = word_after",
                                                           "k < 0; k++) *words[k] = word_after"),
     "a range is repeated in cells that another thread has": (
