@@ -154,7 +154,7 @@ int add_space(enum kept_file which, uint64_t from, uint64_t bytes) {
     int file = kept[which].number, has_call = !syscall(SYS_fallocate, file, 0, from, bytes);
     if (!has_call && errno != EOPNOTSUPP && errno != ENOSYS) return 0;      /* some file systems haven't it */
     for (uint64_t at = from; at < from + bytes; at += sizeof zeros)
-        if (syscall(SYS_pwrite64, file, zeros, least(sizeof zeros, from + bytes - at), at) <= 0) return 0;
+        if (syscall(SYS_pwrite64, file, zeros, sizeof zeros, at) != sizeof zeros) return 0;
     return 1;
 }
 
