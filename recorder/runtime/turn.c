@@ -235,10 +235,12 @@ static int take_free(thread *t) {
 /* Waits until a new thread is at its first hook.  It may sleep: so it works, or a waiter would take the turn
    over. */
 void wait_for_start(thread *t, thread *child) {
+    int saved = errno;
     t->works = 1;
     if (recording && are_slices_short())
         syscall(SYS_futex, &child->began, FUTEX_WAIT_PRIVATE, 0, &(struct timespec){START_SECONDS, 0}, 0, 0);
     t->works = 0;
+    errno = saved;
 }
 
 /* The waiter's last step, and the end of its doubt: takes the turn if its word is still the one seen; also
