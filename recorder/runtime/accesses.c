@@ -8,11 +8,6 @@ static uint64_t size_in_last(uint64_t size) {
 static uint64_t write_at(uint64_t size, uint64_t caller) {
     return caller | (uint64_t)OP_WRITE << 48 | size_in_last(size) << 54;
 }
-static int is_write_of(uint64_t last, uint64_t size) {
-    uint64_t inside = last >> 54;      /* of a quick hook with a depth */
-    return is_write(last)
-        && (inside & IS_RANGE ? inside : inside % (1 << LOGARITHM_BITS)) == size_in_last(size);
-}
 
 /* gcc puts two hooks before one copy of a structure (of the write, then of the read), and between them the
    turn must not be given up.  They are of one size, and the second stands soon after the first in the code:
@@ -21,7 +16,9 @@ static int is_write_of(uint64_t last, uint64_t size) {
 enum { COPY_BYTES = 128 };
 
 static int ends_copy(const thread *t, uint64_t size, uint64_t caller) {
-    return is_write_of(t->last, size) && caller - (t->last & LOW_48_BITS) <= COPY_BYTES;
+    uint64_t inside = t->last >> 54;   /* of a quick hook with a depth */
+    return is_write(t->last) && caller - (t->last & LOW_48_BITS) <= COPY_BYTES
+        && (inside & IS_RANGE ? inside : inside % (1 << LOGARITHM_BITS)) == size_in_last(size);
 }
 
 int hold_range(enum operation operation, uint64_t address, uint64_t size, uint64_t caller) {

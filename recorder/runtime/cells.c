@@ -304,12 +304,6 @@ static int replace_key(cell *c, uint64_t address, uint32_t use, uint64_t word) {
     return 1;
 }
 
-/* The owner's first use of this kind, in this phase or since it was forgotten. Is it held back? */
-static int hold_new(cell *c, uint64_t address, key free, uint32_t use, uint64_t word) {
-    word = c->is_first ? word_after(0, word) : NO_POSITION;
-    return (add_key(c, free, use, word) || replace_key(c, address, use, word)) && c->is_first;
-}
-
 /* Is a use of the cell's owner or of one of its readers held back? Right after the same one, with nothing
    between, it has its position. */
 static int hold_in_cell(cell *c, uint64_t address, cell_use use, uint64_t word) {
@@ -317,7 +311,10 @@ static int hold_in_cell(cell *c, uint64_t address, cell_use use, uint64_t word) 
     uint32_t number = word ? number_of_use(use) : 0;
     if (!number) return 0;
     key found = find_key(c, number);
-    if (!is_used(found)) return hold_new(c, address, found, number, word);
+    if (!is_used(found)) {             /* the first of this kind, in this phase or since it was forgotten */
+        word = c->is_first ? word_after(0, word) : NO_POSITION;
+        return (add_key(c, found, number, word) || replace_key(c, address, number, word)) && c->is_first;
+    }
     if (is_right_behind(*found.word, word)) return IS_HELD_ALREADY;
     *found.word = word_after(*found.word, word);
     return IS_HELD;

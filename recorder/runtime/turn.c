@@ -319,10 +319,6 @@ static int past_its_access(uint64_t word, struct watch *watch) {
     return !works && ticks >= watch->ticks + COMPUTES_TICKS + (long)(seen->range / BYTES_OF_TICK);
 }
 
-static int may_take_over(const thread *t, uint64_t word, struct watch *watch) {
-    return may_get_turn(t, holder_of(word)) && past_its_access(word, watch);
-}
-
 /* ---- a replay that doesn't fit: the list alone says who gets the turn, and that thread doesn't come ---- */
 enum { LOOK_SECONDS = 1, LATE_SECONDS = 5 };
 struct lateness { uint64_t word; time_t since; };            /* as a waiter saw it */
@@ -363,7 +359,8 @@ void take_turn(thread *t) {
     if (!take_free(t)) for (;;) {
         int wakes = atomic_load(&t->wakes);                  /* before the turn: a later wake changes it */
         uint64_t word = look ? doubted_word(&watch) : atomic_load(&turn);
-        if (!recording || HOLDER(word) == NAME(t) || (look && !IS_PATIENT && may_take_over(t, word, &watch)))
+        if (!recording || HOLDER(word) == NAME(t)
+            || (look && !IS_PATIENT && may_get_turn(t, holder_of(word)) && past_its_access(word, &watch)))
             if (accept(t, word, watch.doubts)) break;
         if (look && is_replaying) leave_late_replay(t, word, &late);
         look = syscall(SYS_futex, &t->wakes, FUTEX_WAIT_PRIVATE, wakes, &patience, 0, 0)
