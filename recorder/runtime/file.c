@@ -108,16 +108,14 @@ static int have(int which) {
     identity before = kept[which].of;
     if (has(which)) return 1;
     if (!keep(which, 0)) return 0;
-    if (is_file(kept[which].number, before)) return 1;
+    if (!before.inode || is_file(kept[which].number, before)) return 1;
     leave_file(which);
     kept[which].of = before;
     errno = ENOENT;
     return 0;
 }
 
-/* ---- /proc, which a program may lose by chroot ---- */
-int open_proc(void) { return keep(PROC, 0); }
-
+/* ---- /proc, which a program may lose by chroot: it is opened at first use ---- */
 /* Reads a file of one of the process's threads; returns how many bytes, or an error below 0.  The calls of
    the C library would be points where a thread may be cancelled. */
 int read_task_file(pid_t system_id, const char *leaf, char *text, int size) {

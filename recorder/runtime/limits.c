@@ -109,7 +109,7 @@ PUBLIC long syscall(long number, ...) {
                      : "a"(number), "D"(a), "S"(b), "d"(c), "r"(r10), "r"(r8), "r"(r9) : "rcx", "r11",
                      "memory");
     if (number == SYS_futex && is_waiting_futex(b)) note_waited((void *)a, result, CALLER);
-    if (number == SYS_fork || (number == SYS_clone && !(a & CLONE_VM))) after_fork(result);
+    if (!result && (number == SYS_fork || (number == SYS_clone && !(a & CLONE_VM)))) begin_child();
     if (result >= 0 || result < -4095) return result;
     errno = -result;
     return -1;

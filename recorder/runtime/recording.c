@@ -337,7 +337,7 @@ void stop_recording(const char *reason) {
 
 static int can_look_at_threads(void) { /* without it no turn could be taken over */
     char text[512];
-    if (open_proc() && read_task_file(syscall(SYS_gettid), "stat", text, sizeof text) > 0) return 1;
+    if (read_task_file(syscall(SYS_gettid), "stat", text, sizeof text) > 0) return 1;
     tell("shb recorder: cannot read /proc/self/task/*/stat; the program runs unrecorded\n");
     return 0;
 }

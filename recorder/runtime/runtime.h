@@ -224,7 +224,6 @@ void cut_file(enum kept_file which, uint64_t bytes);
 void *map_file(enum kept_file which, void *at, uint64_t bytes);          /* or MAP_FAILED */
 int take_file(void);
 void leave_file(enum kept_file which);
-int open_proc(void);
 int read_task_file(pid_t system_id, const char *leaf, char *text, int size);
 uint64_t free_space(void);             /* bytes of the disk for more of the record; -1 where nobody says */
 
@@ -322,6 +321,6 @@ void let_others_run(void);             /* gives the turn up before a call that m
 
 /* threads.c */
 extern volatile int others;            /* threads that were created and not joined */
-void after_fork(pid_t made);            /* what was made without fork's handlers: 0 in the child */
+void begin_child(void);                /* in a process made by fork, or as by it */
 void note_name(pthread_t handle, const char *name);          /* the program gives a thread this name */
 #pragma GCC visibility pop

@@ -77,7 +77,7 @@ static void thread_exits(void *t_) {   /* runs again in each round of destructor
 /* ---- a process made by fork: one thread, and a record of its own from here on ---- */
 static int is_unrecorded_child;
 
-static void in_child(void) {
+void begin_child(void) {
     int was = recording;
     recording = 0;
     others = 0;
@@ -96,19 +96,17 @@ static void in_child(void) {
 }
 
 /* What makes a process without fork's handlers. With CLONE_VM it uses its parent's memory, as by vfork. */
-void after_fork(pid_t made) { if (!made) in_child(); }
-
 PUBLIC pid_t _Fork(void) {
     pid_t made = REAL(_Fork)();
-    after_fork(made);
+    if (!made) begin_child();
     return made;
 }
 
 typedef struct { int (*function)(void *); void *argument; } child_start;
 
-static int begin_child(void *start_) {
+static int run_child(void *start_) {
     child_start *start = start_;
-    in_child();
+    begin_child();
     return start->function(start->argument);
 }
 
@@ -119,7 +117,7 @@ PUBLIC int clone(int (*function)(void *), void *stack, int flags, void *argument
     void *parent = va_arg(more, void *), *tls = va_arg(more, void *), *child = va_arg(more, void *);
     va_end(more);
     if (flags & CLONE_VM) return REAL(clone)(function, stack, flags, argument, parent, tls, child);
-    return REAL(clone)(begin_child, stack, flags, &start, parent, tls, child);
+    return REAL(clone)(run_child, stack, flags, &start, parent, tls, child);
 }
 
 /* It starts threads and nobody records them: it says so, once. */
@@ -176,7 +174,7 @@ __attribute__((constructor(101))) static void begin(void) {
     }
     thread *t = new_thread();
     if (!t || !number_thread(t) || pthread_key_create(&at_exit, thread_exits)
-        || pthread_atfork(0, 0, in_child)) return;
+        || pthread_atfork(0, 0, begin_child)) return;
     at_quick_exit(end);                                      /* the last of its handlers */
     if (getenv("SHB_REPLAY")) begin_replay(getenv("SHB_REPLAY"));
     begin_turns(setting("SHB_SLICE", 1, INT_MAX / 2, 0), setting("SHB_SEED", 0, -1, 0));
