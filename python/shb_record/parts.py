@@ -11,6 +11,7 @@ from shb_common.words import Refused, printable
 
 LIBRARY = pathlib.Path(parts.part("../recorder/lib/libtsan.so", "libtsan.so")).parent
 CONVERTER = parts.part("../recorder/shb-std", "shb-std")
+READER = parts.part("../recorder/module-reader", "module-reader")
 ANALYSER = os.environ.get("SHB") or parts.ANALYSER
 
 

@@ -9,26 +9,27 @@
 #include "debug.h"
 
 /* ---- what isn't read ---- */
-static int has_section(Elf *elf, const char *name) {
+int has_section(Elf *elf, const char *name) {
     size_t names;
     if (elf_getshdrstrndx(elf, &names)) return 0;
     for (Elf_Scn *s = 0; (s = elf_nextscn(elf, s));) {
         GElf_Shdr header;
         const char *found = gelf_getshdr(s, &header)
             && header.sh_type != SHT_NOBITS ? elf_strptr(elf, names, header.sh_name) : 0;
-        if (found && !strcmp(found, name)) return 1;
+        if (found && (!strcmp(found, name) || (!strncmp(found, ".z", 2) && !strcmp(found + 2, name + 1))))
+            return 1;
     }
     return 0;
 }
 
-static Elf *own_file(struct debug *d) {
+Elf *own_file(struct debug *d) {
     GElf_Addr bias;
     return d->file ? dwfl_module_getelf(d->file, &bias) : 0;
 }
 
 int has_own_lines(struct debug *d) {
     Elf *elf = own_file(d);
-    return elf && (has_section(elf, ".debug_line") || has_section(elf, ".zdebug_line"));
+    return elf && has_section(elf, ".debug_line");
 }
 
 /* What units have, in namespaces too: functions with code, and with types. */
@@ -95,8 +96,7 @@ const char *why_unread(struct debug *d) {
     Elf *elf = own_file(d);
     read_units(d);
     if (!elf) return 0;
-    int has_info = has_section(elf, ".debug_info") || has_section(elf, ".zdebug_info");
-    if (has_info && !d->units.count)
+    if (has_section(elf, ".debug_info") && !d->units.count)
         return "can't be read: it is too large, damaged, or compressed in a form that isn't known (-gz)";
     if (!d->dwarf)
         return has_section(elf, ".gnu_debuglink") ? "is in a file that isn't there (.gnu_debuglink)"

@@ -64,6 +64,8 @@ char *told_name(const Dwarf_Die *of);  /* "next_id::last", of a function or vari
 
 /* debug.c */
 struct debug *open_debug(const char *path);
+Elf *own_file(struct debug *d);        /* the module's; null if it can't be read */
+int has_section(Elf *elf, const char *name);                 /* also one compressed as `.zdebug` is */
 void read_units(struct debug *d);
 const char *why_unread(struct debug *d);                     /* what of it isn't read, or null */
 int has_own_lines(struct debug *d);    /* in the module's file itself */
@@ -89,6 +91,10 @@ typedef struct { char *function; const char *path; int line; } debug_frame;
 int line_at(struct debug *d, u64 pc, const char **path, int *line, int *column);
 int frames_at(struct debug *d, u64 pc, debug_frame *frames, int most);
 void each_source(struct debug *d, void (*give)(const char *path));
+
+/* linked.c */
+void tell_kind(struct debug *d);
+void tell_calls(struct debug *d);
 
 /* members.c */
 Dwarf_Die *variable_at(struct debug *d, u64 address);       /* null if there is none */

@@ -1,5 +1,7 @@
 /* module-reader: tells shb-std what a module's symbols and debug information say, as libdw of the
-   elfutils reads them.
+   elfutils reads them, and shb-record of what kind it is, and what it calls.
+
+       module-reader PATH [kind|calls]
 
    A module may be any file, made to take memory or time without end, or to break libdw. So this is a process
    of its own for each module, with limits of both; it opens regular files alone, and what it answers is
@@ -133,18 +135,26 @@ static void answer_request(struct debug *d, const request *r, const u64 *numbers
     }
 }
 
-int main(int count, char **words) {
+static void answer_requests(struct debug *d) {
     static u64 numbers[MOST_NUMBERS + 1];  /* the last one ends a text */
     static const row end = {.first = END_ROW};
     request r;
-    if (count != 2) return 3;
-    limit_itself(words[1]);
-    struct debug *d = open_debug(words[1]);
     while (fread(&r, sizeof r, 1, stdin) == 1 && r.count <= MOST_NUMBERS
            && fread(numbers, sizeof *numbers, r.count, stdin) == r.count) {
         answer_request(d, &r, numbers);
         fwrite(&end, sizeof end, 1, stdout);
         if (fflush(stdout)) break;
     }
+}
+
+int main(int count, char **words) {
+    if (count != 2 && count != 3) return 3;
+    limit_itself(words[1]);
+    unsetenv("DEBUGINFOD_URLS");           /* no server is asked for debug information */
+    struct debug *d = open_debug(words[1]);
+    if (count == 2) answer_requests(d);
+    else if (!strcmp(words[2], "kind")) tell_kind(d);
+    else tell_calls(d);
+    fflush(stdout);
     _exit(0);
 }

@@ -103,11 +103,11 @@ static void mark_doubles(struct debug *d) {
 
 const symbol *symbol_from(struct debug *d, u64 address) {
     read_symbols(d);
-    u64 begun = COUNT_BEFORE(k, d->symbols.count, d->symbols.at[k].at <= address);
-    symbol *s = d->symbols.at + begun, *end = d->symbols.at + d->symbols.count;
-    if (begun && address - s[-1].at < s[-1].size) s--;
-    else if (s == end) return 0;
-    else s = d->symbols.at + COUNT_BEFORE(k, d->symbols.count, d->symbols.at[k].at <= s->at) - 1;
+    symbol *all = d->symbols.at;
+    u64 count = d->symbols.count, next = COUNT_BEFORE(k, count, all[k].at <= address);
+    int is_there = next && address - all[next - 1].at < all[next - 1].size;
+    if (!is_there && next == count) return 0;
+    symbol *s = &all[is_there ? next - 1 : COUNT_BEFORE(k, count, all[k].at <= all[next].at) - 1];
     name_of(d, s);
     if (!s->is_function) mark_doubles(d);
     return s;

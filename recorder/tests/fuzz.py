@@ -59,8 +59,9 @@ def large_blocks():
 SOURCE = """struct pair { int id; struct { long low; int high[4]; } range; } one;
 static struct pair many[3];
 struct pair *make(long);
+extern "C" void __tsan_init();
 static inline struct pair *allocate(long size) { return make(size); }
-struct pair *work(int n) { struct pair both = {n};
+struct pair *work(int n) { struct pair both = {n}; __tsan_init();
     if (n > 2) { struct pair other = both; make((long)&other); } make((long)&both);
     many[n % 3].id = one.id; return allocate(sizeof one); }
 """

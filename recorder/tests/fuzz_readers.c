@@ -75,13 +75,16 @@ static int prepare(const uint8_t *data, size_t size, char **words) {
 static u64 given;
 static void take_text(const char *text) { given += strlen(text); }
 
-/* Asks for a name in each variable, of locals of each function, of blocks that it allocates, and of the frames at its code. */
+/* Asks for what shb-record does, for a name in each variable, of locals of each function, of blocks that it allocates, and of the frames at
+   its code. */
 static int read_module(void) {
     enum { MOST = 64 };
     char name[NAME_BYTES];
     debug_frame frames[MOST];
     struct debug *d = open_debug(input);
     why_unread(d);
+    tell_kind(d);
+    tell_calls(d);
     is_variable(d, "one");
     for (u64 k = 0; k < d->symbols.count && k < 16 * MOST; k++) symbol_from(d, d->symbols.at[k].at);
     each_source(d, take_text);

@@ -104,6 +104,21 @@ class Libraries(recorder.Case):
                                          "libbox.so, whose locks and queues aren't seen."), 1)
         self.assertEqual(page.read_text().count('class="tag perhaps"'), 1)
 
+    def test_perhaps_ordered_in_a_class(self):
+        """What calls the library is a constructor, and a function of a template."""
+        self.perhaps_ordered(
+            "static void *_Atomic held;\nvoid box_put(void *p) { held = p; }\nvoid *box_get(void) { void *p; "
+            "while (!(p = held)) {} return p; }\n",
+            "#include <pthread.h>\n#define APART [[gnu::noinline]]\nextern \"C\" void box_put(void *);\n"
+            "extern \"C\" void *box_get();\nstatic long block, other;\nstruct giver { giver(); };\nAPART "
+            "giver::giver() {\n    block = 5;\n    box_put(&block);\n}\ntemplate <class T> APART T taken(T "
+            "bad) {\n    return *static_cast<T *>(box_get()) != bad;\n}\nstatic void *give(void *u) {\n    "
+            "giver one;\n    return u;\n}\nstatic void *count(void *u) {\n    other++;\n    return u;\n}\n"
+            "int main() {\n    pthread_t t, u;\n    pthread_create(&t, 0, give, 0);\n    pthread_create(&u, "
+            "0, count, 0);\n    long bad = taken(5l);\n    other++;\n    pthread_join(t, 0);\n    return "
+            "pthread_join(u, 0) || bad;\n}\n",
+            {"block": ["libbox.so"], "other": None}, compiler="g++")
+
     def test_what_a_sanitizer_adds_orders_nothing(self):
         """A race isn't doubted because both sides have calls of libubsan."""
         words = ["-g", "-Og", "-fsanitize=thread,undefined",
@@ -138,14 +153,15 @@ class Libraries(recorder.Case):
             {"total": ["libbox.so"], "other": None}, kept)
         self.assertIn("Code without -fsanitize=thread isn't seen: libbox.so.", said)
 
-    def perhaps_ordered(self, library, program, wanted, kept=("-s",)):
+    def perhaps_ordered(self, library, program, wanted, kept=("-s",), compiler="gcc"):
         """Records a program of a library without hooks and what is `kept` of it, and compares which variables
         are marked; gives what is said."""
+        source = {"gcc": "use.c", "g++": "use.cc"}[compiler]
         (self.folder / "box.c").write_text(library)
-        (self.folder / "use.c").write_text(program)
-        for words in ([*kept, "-shared", "-fPIC", "box.c", "-o", "libbox.so"],
-                      ["-fsanitize=thread", "use.c", "-o", "use", "./libbox.so"]):
-            recorder.must(recorder.call("gcc", "-g", "-O1", "-pthread", *words, cwd=self.folder))
+        (self.folder / source).write_text(program)
+        for words in (["gcc", *kept, "-shared", "-fPIC", "box.c", "-o", "libbox.so"],
+                      [compiler, "-fsanitize=thread", source, "-o", "use", "./libbox.so"]):
+            recorder.must(recorder.call(*words, "-g", "-O1", "-pthread", cwd=self.folder))
         shutil.rmtree(self.folder / "out", ignore_errors=True)
         ran = recorder.call(recorder.COMMAND, "-o", "out", "./use", cwd=self.folder,
                             env={**os.environ, "SHB": str(recorder.SHB)})
