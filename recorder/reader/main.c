@@ -10,7 +10,6 @@
 #include <errno.h>
 #include <fcntl.h>
 #include <signal.h>
-#include <stdarg.h>
 #include <stdio.h>
 #include <stdlib.h>
 #include <string.h>
@@ -24,14 +23,10 @@
 enum { SECONDS = 120, TIMES = 16 };
 #define BYTES (512ul << 20)
 
-/* libdw opens by this whatever path a module has in it. A device or FIFO may have no end. */
+/* libdw opens by this whatever path a module has in it, to read. A device or FIFO may have no end. */
 int open(const char *path, int flags, ...) {
     struct stat status;
-    va_list arguments;
-    va_start(arguments, flags);
-    int f = openat(AT_FDCWD, path, flags | O_NONBLOCK | O_CLOEXEC,
-                   flags & (O_CREAT | O_TMPFILE) ? va_arg(arguments, mode_t) : 0);
-    va_end(arguments);
+    int f = openat(AT_FDCWD, path, O_RDONLY | O_NONBLOCK | O_CLOEXEC);
     if (f < 0 || (!fstat(f, &status) && S_ISREG(status.st_mode))) return f;
     close(f);
     errno = EACCES;

@@ -43,10 +43,10 @@ int LLVMFuzzerInitialize(int *count, char ***words) {
     snprintf(package, sizeof package, "%s/input.dwo.dwp", folder);
     if (symlink("input.dwo", package)) abort();
     snprintf(said, sizeof said, "%s/said", folder);
-    file = open(races, O_RDWR | O_CREAT | O_TRUNC, 0600);
+    file = openat(AT_FDCWD, races, O_RDWR | O_CREAT | O_TRUNC, 0600);       /* the reader has an open of its own */
     if (file < 0 || dprintf(file, "1 3 0x5000\n2 40 0x5008\n") < 0 || close(file)) abort();
-    file = open(input, O_RDWR | O_CREAT | O_TRUNC, 0600);
-    words_file = open(said, O_RDWR | O_CREAT | O_TRUNC | O_APPEND, 0600);
+    file = openat(AT_FDCWD, input, O_RDWR | O_CREAT | O_TRUNC, 0600);
+    words_file = openat(AT_FDCWD, said, O_RDWR | O_CREAT | O_TRUNC | O_APPEND, 0600);
     if (file < 0 || words_file < 0) abort();
     __sanitizer_cov_8bit_counters_init(&__start___sancov_cntrs, &__stop___sancov_cntrs);
     return 0;
