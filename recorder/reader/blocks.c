@@ -170,13 +170,12 @@ static named_part find_part(Dwarf_Die type, u64 offset, u64 length) {
     text to = {name, sizeof name, 0};
     named_part found = {.is_met = 1};
     if (!find_own_type(&type, &offset, length, &to)) return found;
-    found.type = strndup(name, to.at - name);
+    found.type = copied(name);
     char *rest = to.at;
     to.rest = offset;
     add_members(type, offset, length, &to);
     if (to.rest) snprintf(to.at, to.room, "+%lu", to.rest);
-    found.rest = strdup(rest);
-    if (!found.type || !found.rest) die("out of memory");
+    found.rest = copied(rest);
     return found;
 }
 

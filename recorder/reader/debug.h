@@ -39,8 +39,9 @@ struct debug {
     VECTOR(unit) units;
     VECTOR(span) spans;                /* the code of units, sorted */
     VECTOR(symbol) symbols;            /* sorted */
+    map names;                         /* of variables */
     /* are they read? Of variables: 1 those outside of functions, 2 all */
-    int has_symbols, has_doubles, has_units, has_variables;
+    int has_symbols, has_names, has_units, has_variables;
     /* units that are in other files, in object files; a file of another build */
     uint8_t lacks_split, is_in_objects, is_alien;
     INTERNED(Dwarf_Die) variables;     /* by their addresses */

@@ -15,8 +15,7 @@ char *demangled(const char *name) {
         of_library = library ? (demangle *)dlsym(library, "__cxa_demangle") : 0;
     }
     char *text = is_mangled && of_library ? of_library(name, 0, 0, &status) : 0;
-    if (!text && !(text = strdup(name))) die("out of memory");
-    return text;
+    return text ? text : copied(name);
 }
 
 /* Rust's two forms, "_R.." and "_ZN..17h" with 16 digits and "E"; "__m_MOD_x" of Fortran; "_D1m1x.." of D;
@@ -37,10 +36,9 @@ static int is_static_local(const char *linked) {
 }
 
 char *told_name(const Dwarf_Die *of) {
-    char name[NAME_BYTES], *found = 0;
+    char name[NAME_BYTES];
     text to = {name, sizeof name, 0};
-    if (add_qualified_name(of, &to) && !(found = strdup(name))) die("out of memory");
-    return found;
+    return add_qualified_name(of, &to) ? copied(name) : 0;
 }
 
 static void take_symbol(struct debug *d, int number) {
@@ -81,24 +79,17 @@ static const char *name_of(struct debug *d, symbol *s) {
     return s->name ? s->name : (s->name = demangled(s->linked));
 }
 
-static int by_name(const void *a, const void *b) {
-    return strcmp((*(symbol **)a)->name, (*(symbol **)b)->name);
-}
-
-/* Variables of one name, static in several files. */
-static void mark_doubles(struct debug *d) {
-    if (d->has_doubles++) return;
-    symbol **sorted = zeroed(d->symbols.count + 1, sizeof *sorted);
-    u64 count = 0;
+/* Names the variables, and marks those of one name, static in several files. */
+static void name_variables(struct debug *d) {
+    if (d->has_names++) return;
+    symbol **first = zeroed(d->symbols.count + 1, sizeof *first);
     EACH(s, d->symbols.at, d->symbols.count) {
         if (s->is_function) continue;
-        name_of(d, s);
-        sorted[count++] = s;
+        symbol **known = &first[map_text(&d->names, name_of(d, s)) - 1];
+        if (!*known) *known = s;
+        else s->is_twice = (*known)->is_twice = 1;
     }
-    qsort(sorted, count, sizeof *sorted, by_name);
-    for (u64 k = 1; k < count; k++)
-        if (!strcmp(sorted[k]->name, sorted[k - 1]->name)) sorted[k]->is_twice = sorted[k - 1]->is_twice = 1;
-    free(sorted);
+    free(first);
 }
 
 const symbol *symbol_from(struct debug *d, u64 address) {
@@ -109,13 +100,12 @@ const symbol *symbol_from(struct debug *d, u64 address) {
     if (!is_there && next == count) return 0;
     symbol *s = &all[is_there ? next - 1 : COUNT_BEFORE(k, count, all[k].at <= all[next].at) - 1];
     name_of(d, s);
-    if (!s->is_function) mark_doubles(d);
+    if (!s->is_function) name_variables(d);
     return s;
 }
 
 int is_variable(struct debug *d, const char *name) {
     read_symbols(d);
-    EACH(s, d->symbols.at, d->symbols.count)
-        if (!s->is_function && !strcmp(name_of(d, s), name)) return 1;
-    return 0;
+    name_variables(d);
+    return map_find_bytes(&d->names, name, strlen(name)) != 0;
 }
