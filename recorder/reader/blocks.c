@@ -5,16 +5,10 @@
 #include <string.h>
 #include "debug.h"
 
-/* The innermost function that has this code, also where it is inlined. */
-static Dwarf_Die innermost(struct debug *d, Dwarf_Die function, u64 pc) {
-    Dwarf_Die scopes[MOST_STEPS];
-    return scopes[scopes_at(function, pc - d->bias, scopes, MOST_STEPS) - 1];
-}
-
 /* The type of the first argument of a template; 0 where there is none. */
 static int first_argument(Dwarf_Die *of, Dwarf_Die *type) {
     Dwarf_Die e;
-    for (int more = !dwarf_child(of, &e); more; more = !dwarf_siblingof(&e, &e))
+    EACH_CHILD(&e, of)
         if (dwarf_tag(&e) == DW_TAG_template_type_parameter) return type_of(&e, type);
     return 0;
 }
@@ -93,7 +87,7 @@ static int has_two_of(Dwarf_Die *of, Dwarf_Die *type) {
     Dwarf_Die e, other;
     int found = 0;
     u64 place;
-    for (int more = !dwarf_child(of, &e); more; more = !dwarf_siblingof(&e, &e))
+    EACH_CHILD(&e, of)
         found += dwarf_tag(&e) == DW_TAG_member && place_of_member(&e, &place) && type_of(&e, &other)
             && other.addr == type->addr;
     return found > 1;
@@ -157,9 +151,8 @@ static const allocation *allocated_at(struct debug *d, const place_in_block *at)
     allocation *call = ENTRY(d->calls, at->pc, 0);
     Dwarf_Die function, type = {0};
     if (call->is_met) return call;
-    int is_known = find_function(d, at->pc, &function)
-        && (allocated_type(innermost(d, function, at->pc), at->size, &type)
-            || type_by_text(d, at->pc, at->size, &type));
+    int is_known = find_innermost(d, at->pc, &function)
+        && (allocated_type(function, at->size, &type) || type_by_text(d, at->pc, at->size, &type));
     if (!is_known) type.addr = 0;
     *call = (allocation){type, is_of_bits(d, at->pc), 1};
     return call;

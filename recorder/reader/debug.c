@@ -47,8 +47,7 @@ static int note_functions(void *to, Dwarf_Die *e) {
 static int lacks_type(Dwarf_Die *e, unsigned attribute) {
     Dwarf_Die to;
     Dwarf_Attribute a;
-    return dwarf_attr(e, attribute, &a) && dwarf_whatform(&a) == DW_FORM_ref_sig8
-        && !dwarf_formref_die(&a, &to);
+    return dwarf_whatform(dwarf_attr(e, attribute, &a)) == DW_FORM_ref_sig8 && !dwarf_formref_die(&a, &to);
 }
 
 /* As 0.188 in split files. */
@@ -56,7 +55,7 @@ static int lacks_types(struct debug *d) {
     EACH(u, d->units.at, d->units.count) {
         Dwarf_Die e;
         if (u->whole.addr == u->linked.addr) continue;
-        for (int more = !dwarf_child(&u->whole, &e); more; more = !dwarf_siblingof(&e, &e))
+        EACH_CHILD(&e, &u->whole)
             if (lacks_type(&e, DW_AT_signature) || lacks_type(&e, DW_AT_type)) return 1;
     }
     return 0;
@@ -134,14 +133,6 @@ struct debug *open_debug(const char *path) {
     return d;
 }
 
-/* The debug information of a system's library may be large, and mostly isn't asked for. */
-static void read_dwarf(struct debug *d) {
-    Dwarf_Addr bias = 0;
-    d->dwarf = d->file ? dwfl_module_getdwarf(d->file, &bias) : 0;
-    d->bias = bias;
-    d->is_alien = d->dwarf && is_of_other_build(d->dwarf);
-}
-
 /* The next code of an entry, but what the linker left out. 0: there is no more. */
 static int next_code(Dwarf_Die *die, ptrdiff_t *at, u64 *low, u64 *high) {
     Dwarf_Addr base;
@@ -206,10 +197,12 @@ static int is_in_object(Dwarf_Die *unit) {
     return name && strlen(name) > 2 && !strcmp(name + strlen(name) - 2, ".o");
 }
 
+/* The debug information of a system's library may be large, and mostly isn't asked for. */
 void read_units(struct debug *d) {
     if (d->has_units++) return;
-    read_dwarf(d);
+    d->dwarf = d->file ? dwfl_module_getdwarf(d->file, &d->bias) : 0;
     if (!d->dwarf) return;
+    d->is_alien = is_of_other_build(d->dwarf);
     uint8_t kind;
     Dwarf_Half version;
     Dwarf_Die die, split;
@@ -231,8 +224,9 @@ void read_units(struct debug *d) {
 }
 
 static unit *unit_with(struct debug *d, u64 pc) {
-    u64 begun = COUNT_BEFORE(k, d->spans.count, d->spans.at[k].low <= pc);
-    return begun && pc < d->spans.at[begun - 1].high ? &d->units.at[d->spans.at[begun - 1].unit] : 0;
+    read_units(d);
+    const u64 at = pc - d->bias, begun = COUNT_BEFORE(k, d->spans.count, d->spans.at[k].low <= at);
+    return begun && at < d->spans.at[begun - 1].high ? &d->units.at[d->spans.at[begun - 1].unit] : 0;
 }
 
 static unit *find_code(struct debug *d, u64 pc, Dwarf_Die *function) {
@@ -240,33 +234,57 @@ static unit *find_code(struct debug *d, u64 pc, Dwarf_Die *function) {
     *function = (Dwarf_Die){0};
     if (!u) return 0;
     index_functions(u);
-    u64 begun = COUNT_BEFORE(k, u->functions.count, u->functions.at[k].low <= pc);
-    if (begun && pc < u->functions.at[begun - 1].high) *function = u->functions.at[begun - 1].at;
+    const u64 at = pc - d->bias, begun = COUNT_BEFORE(k, u->functions.count, u->functions.at[k].low <= at);
+    if (begun && at < u->functions.at[begun - 1].high) *function = u->functions.at[begun - 1].at;
     return u;
 }
 
 int find_function(struct debug *d, u64 pc, Dwarf_Die *function) {
-    read_units(d);
-    return !d->is_alien && find_code(d, pc - d->bias, function) && function->addr;
+    return find_code(d, pc, function) && !d->is_alien && function->addr;
 }
 
 int find_unit(struct debug *d, u64 pc, Dwarf_Die *whole) {
-    Dwarf_Die function;
-    read_units(d);
-    const unit *u = d->is_alien ? 0 : find_code(d, pc - d->bias, &function);
-    if (u) *whole = u->whole;
-    return u != 0;
+    const unit *u = unit_with(d, pc);
+    if (!u || d->is_alien) return 0;
+    *whole = u->whole;
+    return 1;
 }
 
-int has_code(const struct debug *d, Dwarf_Die *die, u64 pc) { return dwarf_haspc(die, pc - d->bias) > 0; }
+/* A function, and what is inlined in it at a place in the code, the outermost first; addresses are as the
+   debug information has them. */
+static int scopes_at(Dwarf_Die function, u64 at, Dwarf_Die *scopes, int most) {
+    Dwarf_Die scope = function, e;
+    int count = 0;
+    scopes[count++] = function;
+    for (int steps = 0; steps < MOST_STEPS; steps++) {
+        int is_found = 0, tag;
+        EACH_CHILD(&e, &scope) {
+            tag = dwarf_tag(&e);
+            is_found = (tag == DW_TAG_lexical_block || tag == DW_TAG_inlined_subroutine)
+                && dwarf_haspc(&e, at) > 0;
+            if (is_found) break;
+        }
+        if (!is_found) break;
+        if (tag == DW_TAG_inlined_subroutine && count < most) scopes[count++] = e;
+        scope = e;
+    }
+    return count;
+}
+
+int find_innermost(struct debug *d, u64 pc, Dwarf_Die *function) {
+    Dwarf_Die scopes[MOST_STEPS];
+    if (!find_function(d, pc, function)) return 0;
+    *function = scopes[scopes_at(*function, pc - d->bias, scopes, MOST_STEPS) - 1];
+    return 1;
+}
 
 /* ---- lines ---- */
 /* A path that is told from the folder of the compilation, whole: a copy where it isn't the same. */
 static const char *whole_path(unit *u, const char *path) {
     Dwarf_Attribute a;
-    const char *folder = path && *path != '/' && dwarf_attr(&u->linked, DW_AT_comp_dir, &a)
-        ? dwarf_formstring(&a) : 0;
     char *whole;
+    if (!path || *path == '/') return path;
+    const char *folder = dwarf_formstring(dwarf_attr(&u->linked, DW_AT_comp_dir, &a));
     if (!folder) return path;
     if (asprintf(&whole, "%s/%s", folder, path) < 0) die("out of memory");
     return whole;
@@ -274,42 +292,22 @@ static const char *whole_path(unit *u, const char *path) {
 
 static char *name_of_function(Dwarf_Die *die) {
     Dwarf_Attribute a;
-    const char *linked = 0, *name = 0;
-    if (dwarf_attr_integrate(die, DW_AT_linkage_name, &a)
-        || dwarf_attr_integrate(die, DW_AT_MIPS_linkage_name, &a)) linked = dwarf_formstring(&a);
-    if (!linked) name = dwarf_diename(die);
+    const char *linked = dwarf_formstring(dwarf_attr_integrate(die, DW_AT_linkage_name, &a));
+    if (!linked) linked = dwarf_formstring(dwarf_attr_integrate(die, DW_AT_MIPS_linkage_name, &a));
+    const char *name = linked ? linked : dwarf_diename(die);
     char *told = linked && is_of_other(linked) ? told_name(die) : 0;
-    return told ? told : linked || name ? demangled(linked ? linked : name) : 0;
+    return told ? told : name ? demangled(name) : 0;
 }
 
-int scopes_at(Dwarf_Die function, u64 pc, Dwarf_Die *scopes, int most) {
-    Dwarf_Die scope = function, e;
-    int count = 0;
-    scopes[count++] = function;
-    for (int steps = 0, found = 1; found && steps < MOST_STEPS; steps++) {
-        found = 0;
-        for (int more = !dwarf_child(&scope, &e); more && !found; more = found || !dwarf_siblingof(&e, &e)) {
-            int tag = dwarf_tag(&e);
-            found = (tag == DW_TAG_lexical_block || tag == DW_TAG_inlined_subroutine)
-                && dwarf_haspc(&e, pc) > 0;
-            if (found && tag == DW_TAG_inlined_subroutine && count < most) scopes[count++] = e;
-            if (found) scope = e;
-        }
-    }
-    return count;
-}
-
-static u64 number_of(Dwarf_Die *die, unsigned attribute) {
+int has_number(Dwarf_Die *die, unsigned attribute, u64 *number) {
     Dwarf_Attribute a;
-    Dwarf_Word number = 0;
-    return dwarf_attr(die, attribute, &a) && !dwarf_formudata(&a, &number) ? number : 0;
+    return !dwarf_formudata(dwarf_attr(die, attribute, &a), number);
 }
 
 static int frames_by_lines(struct debug *d, u64 pc, debug_frame *frames, int most) {
     Dwarf_Die function, scopes[MOST_STEPS];
-    read_units(d);
+    unit *u = find_code(d, pc, &function);
     u64 at = pc - d->bias;
-    unit *u = find_code(d, at, &function);
     if (!u) return 0;
     int count = function.addr ? scopes_at(function, at, scopes, most < MOST_STEPS ? most : MOST_STEPS) : 0;
     Dwarf_Line *line = dwarf_getsrc_die(&u->linked, at);
@@ -329,16 +327,16 @@ static int frames_by_lines(struct debug *d, u64 pc, debug_frame *frames, int mos
         f.function = d->is_alien ? 0 : name_of_function(&scopes[k]);
         frames[count - 1 - k] = f;
         if (!k) break;
-        u64 number = number_of(&scopes[k], DW_AT_call_file);
-        f = (debug_frame){.path = number < file_count ? whole_path(u, dwarf_filesrc(files, number, 0, 0)) : 0,
-            .line = number_of(&scopes[k], DW_AT_call_line)};
+        u64 number, line_of_call;
+        int is_told = has_number(&scopes[k], DW_AT_call_file, &number) && number < file_count;
+        f = (debug_frame){.path = is_told ? whole_path(u, dwarf_filesrc(files, number, 0, 0)) : 0};
+        if (has_number(&scopes[k], DW_AT_call_line, &line_of_call)) f.line = line_of_call;
     }
     return count;
 }
 
 int line_at(struct debug *d, u64 pc, const char **path, int *line, int *column) {
-    read_units(d);
-    unit *u = unit_with(d, pc - d->bias);
+    unit *u = unit_with(d, pc);
     Dwarf_Line *found = u && !d->is_alien ? dwarf_getsrc_die(&u->linked, pc - d->bias) : 0;
     if (!found || dwarf_lineno(found, line) || dwarf_linecol(found, column)) return 0;
     *path = whole_path(u, dwarf_linesrc(found, 0, 0));

@@ -70,6 +70,9 @@ int has_section(Elf *elf, const char *name);                 /* also one compres
 void read_units(struct debug *d);
 const char *why_unread(struct debug *d);                     /* what of it isn't read, or null */
 int has_own_lines(struct debug *d);    /* in the module's file itself */
+/* For each child of an entry. */
+#define EACH_CHILD(e, in) \
+    for (int its_more = !dwarf_child((in), (e)); its_more; its_more = !dwarf_siblingof((e), (e)))
 /* The first child of an entry, and the next one: in a file that isn't what it should be, only those behind
    all met before, so that none is met often. */
 int first_entry(Dwarf_Die *in, Dwarf_Die *e, const void **last);
@@ -80,12 +83,10 @@ typedef int (*take_entry)(void *to, Dwarf_Die *e);
 void each_entry(Dwarf_Die *in, take_entry take, void *to);
 /* that has this code; 0 where none is known */
 int find_function(struct debug *d, u64 pc, Dwarf_Die *function);
+int find_innermost(struct debug *d, u64 pc, Dwarf_Die *function);      /* also one that is inlined */
 int find_unit(struct debug *d, u64 pc, Dwarf_Die *whole);    /* the same */
+int has_number(Dwarf_Die *die, unsigned attribute, u64 *number);
 int may_have_types(int tag);           /* may an entry have functions or types in it? */
-int has_code(const struct debug *d, Dwarf_Die *die, u64 pc);
-/* A function, and what is inlined in it at a place in the code, the outermost first; addresses are as the
-   debug information has them. */
-int scopes_at(Dwarf_Die function, u64 pc, Dwarf_Die *scopes, int most);
 /* The frames at a place in the code, the innermost first; what isn't known is null, and 0. */
 typedef struct { char *function; const char *path; int line; } debug_frame;
 /* 0: it isn't known */

@@ -103,7 +103,7 @@ static void answer_request(struct debug *d, const request *r, const u64 *numbers
     const char *text;
     size_t length;
     object_in_block object;
-    place_in_block block;
+    const place_in_block block = {numbers[0], numbers[1], numbers[2], numbers[3]};
     switch ((enum request_kind)r->kind) {
     case ASK_SYMBOLS: answer_symbols(d, numbers[0]); break;
     case ASK_VARIABLE: if (is_variable(d, (const char *)numbers)) answer(0, 0, "", ""); break;
@@ -118,12 +118,10 @@ static void answer_request(struct debug *d, const request *r, const u64 *numbers
         if (text) answer(0, 0, name, text);
         break;
     case ASK_BLOCK:
-        block = (place_in_block){numbers[0], numbers[1], numbers[2], numbers[3]};
         length = add_in_block(d, block, name, sizeof name);
         if (length || has_type(d, block)) answer(length, 0, name, "");
         break;
     case ASK_USE:
-        block = (place_in_block){numbers[0], numbers[1], numbers[2], numbers[3]};
         if (!object_by_use(d, block, numbers[4], &object) || (object.begin | object.size) >> 32) break;
         length = add_by_use(d, &object, numbers[5], numbers[6], name, sizeof name);
         answer(length, object.begin << 32 | object.size, name, "");

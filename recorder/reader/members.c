@@ -11,8 +11,7 @@ static u64 address_of_variable(Dwarf_Die *die) {
     Dwarf_Op *operations;
     Dwarf_Addr address = 0;
     size_t count;
-    int is_told = dwarf_attr(die, DW_AT_location, &a) && !dwarf_getlocation(&a, &operations, &count) && count;
-    if (!is_told) return 0;
+    if (dwarf_getlocation(dwarf_attr(die, DW_AT_location, &a), &operations, &count) || !count) return 0;
     /* A value that is kept in fewer bits has more operations. */
     if (count > 1 && operations[count - 1].atom != DW_OP_stack_value) return 0;
     if (operations->atom == DW_OP_addr) return operations->number;
@@ -48,7 +47,7 @@ Dwarf_Die *variable_at(struct debug *d, u64 address) {
 int follow(Dwarf_Die *die, unsigned attribute) {
     Dwarf_Attribute a;
     Dwarf_Die to;
-    if (!dwarf_attr_integrate(die, attribute, &a) || !dwarf_formref_die(&a, &to)) return 0;
+    if (!dwarf_formref_die(dwarf_attr_integrate(die, attribute, &a), &to)) return 0;
     *die = to;
     return 1;
 }
@@ -86,17 +85,13 @@ static int read_dimensions(Dwarf_Die *array, u64 *counts, Dwarf_Sword *firsts) {
     int found = 0;
     Dwarf_Die e;
     Dwarf_Sword usual = default_first(array);
-    for (int more = !dwarf_child(array, &e); more && found
-         < MOST_DIMENSIONS; more = !dwarf_siblingof(&e, &e)) {
+    EACH_CHILD(&e, array) {
         Dwarf_Attribute a;
-        Dwarf_Word number;
-        if (dwarf_tag(&e) != DW_TAG_subrange_type) break;
-        counts[found] = 0;
-        if (!dwarf_attr(&e, DW_AT_lower_bound, &a) || dwarf_formsdata(&a, &firsts[found]))
-            firsts[found] = usual;
-        if (dwarf_attr(&e, DW_AT_count, &a) && !dwarf_formudata(&a, &number)) counts[found] = number;
-        else if (dwarf_attr(&e, DW_AT_upper_bound, &a) && !dwarf_formudata(&a, &number))
-            counts[found] = number + 1 - firsts[found];
+        u64 last;
+        if (found == MOST_DIMENSIONS || dwarf_tag(&e) != DW_TAG_subrange_type) break;
+        if (dwarf_formsdata(dwarf_attr(&e, DW_AT_lower_bound, &a), &firsts[found])) firsts[found] = usual;
+        if (!has_number(&e, DW_AT_count, &counts[found]))
+            counts[found] = has_number(&e, DW_AT_upper_bound, &last) ? last + 1 - firsts[found] : 0;
         found++;
     }
     return found;
@@ -128,7 +123,7 @@ static int has_one_member(Dwarf_Die *of) {
     Dwarf_Die e;
     int found = 0;
     u64 place;
-    for (int more = !dwarf_child(of, &e); more; more = !dwarf_siblingof(&e, &e))
+    EACH_CHILD(&e, of)
         found += place_of_member(&e, &place);
     return found == 1;
 }
@@ -140,21 +135,19 @@ int is_structure(Dwarf_Die *type) {
 /* A number, or in DWARF 2 what is added to where the whole begins. */
 int place_of_member(Dwarf_Die *member, u64 *place) {
     Dwarf_Attribute a;
-    Dwarf_Word number;
     Dwarf_Op *operations;
     size_t count;
     int tag = dwarf_tag(member);
-    if ((tag != DW_TAG_member && tag != DW_TAG_inheritance)
-        || !dwarf_attr(member, DW_AT_data_member_location, &a)) return 0;
-    if (!dwarf_formudata(&a, &number)) *place = number;
-    else if (!dwarf_getlocation(&a, &operations, &count) && count == 1
-             && operations->atom == DW_OP_plus_uconst) *place = operations->number;
-    else return 0;
+    if (tag != DW_TAG_member && tag != DW_TAG_inheritance) return 0;
+    if (has_number(member, DW_AT_data_member_location, place)) return 1;
+    if (dwarf_getlocation(dwarf_attr(member, DW_AT_data_member_location, &a), &operations, &count)
+        || count != 1 || operations->atom != DW_OP_plus_uconst) return 0;
+    *place = operations->number;
     return 1;
 }
 
 int member_with(Dwarf_Die *of, u64 offset, u64 length, Dwarf_Die *member, u64 *place) {
-    for (int more = !dwarf_child(of, member); more; more = !dwarf_siblingof(member, member)) {
+    EACH_CHILD(member, of) {
         Dwarf_Die type;
         if (!place_of_member(member, place) || dwarf_hasattr(member, DW_AT_bit_size)
             || !type_of(member, &type)) continue;
@@ -165,15 +158,12 @@ int member_with(Dwarf_Die *of, u64 offset, u64 length, Dwarf_Die *member, u64 *p
 }
 
 int place_of_bits(Dwarf_Die *member, u64 *place, u64 *length) {
-    Dwarf_Attribute a;
-    Dwarf_Word at, size, whole, above;
-    if (dwarf_tag(member) != DW_TAG_member || !dwarf_attr(member, DW_AT_bit_size, &a)
-        || dwarf_formudata(&a, &size)) return 0;
-    if (dwarf_attr(member, DW_AT_data_bit_offset, &a) && !dwarf_formudata(&a, &at)) *place = at;
-    else {                             /* before DWARF 5: how many bits of its unit are above it */
-        if (!place_of_member(member, place) || !dwarf_attr(member, DW_AT_bit_offset, &a)
-            || dwarf_formudata(&a, &above)) return 0;
-        if (!dwarf_attr(member, DW_AT_byte_size, &a) || dwarf_formudata(&a, &whole)) return 0;
+    u64 size, whole, above;
+    if (dwarf_tag(member) != DW_TAG_member || !has_number(member, DW_AT_bit_size, &size)) return 0;
+    if (!has_number(member, DW_AT_data_bit_offset, place)) {
+        /* before DWARF 5: how many bits of its unit are above it */
+        if (!place_of_member(member, place) || !has_number(member, DW_AT_bit_offset, &above)
+            || !has_number(member, DW_AT_byte_size, &whole)) return 0;
         *place = 8 * *place + 8 * whole - above - size;
     }
     *length = size;
@@ -222,7 +212,7 @@ static void add_bits(Dwarf_Die *of, u64 offset, u64 length, text *to) {
     const text before = *to;
     u64 place, size, found = 0;
     Dwarf_Die member, type;
-    for (int more = !dwarf_child(of, &member); more; more = !dwarf_siblingof(&member, &member)) {
+    EACH_CHILD(&member, of) {
         const char *name = dwarf_diename(&member);
         int is_bits = place_of_bits(&member, &place, &size);
         if (!is_bits && place_of_member(&member, &place) && type_of(&member, &type)) {
@@ -281,8 +271,7 @@ void add_member(struct debug *d, u64 address, u64 offset, u64 length, char *buff
 /* ---- locals ---- */
 /* What is looked for, and the one that was found; of several none is certain. */
 typedef struct {
-    struct debug *d;
-    place_of_local at;
+    place_of_local at;                 /* its address as the debug information has it */
     Dwarf_Die function;
     int found;
     Dwarf_Die type;
@@ -298,8 +287,7 @@ static int plain_location(const search *s, Dwarf_Die *die, unsigned attribute, D
     Dwarf_Attribute a;
     Dwarf_Op *operations;
     size_t count;
-    if (!dwarf_attr(die, attribute, &a)
-        || dwarf_getlocation_addr(&a, s->at.pc - s->d->bias, &operations, &count, 1) != 1
+    if (dwarf_getlocation_addr(dwarf_attr(die, attribute, &a), s->at.pc, &operations, &count, 1) != 1
         || count != 1) return 0;
     *found = *operations;
     return 1;
@@ -335,15 +323,16 @@ static void look_in(search *s, Dwarf_Die *scope, const char *inlined, int depth)
         int tag = dwarf_tag(&e);
         if (tag == DW_TAG_variable || tag == DW_TAG_formal_parameter) look_at(s, &e, inlined);
         if ((tag != DW_TAG_lexical_block && tag != DW_TAG_inlined_subroutine) || depth >= MOST_STEPS
-            || !has_code(s->d, &e, s->at.pc)) continue;
+            || dwarf_haspc(&e, s->at.pc) <= 0) continue;
         const char *name = tag == DW_TAG_inlined_subroutine ? dwarf_diename(&e) : inlined;
         look_in(s, &e, name ? name : "", depth + 1);
     }
 }
 
 const char *add_local(struct debug *d, place_of_local at, char *buffer, size_t size) {
-    search s = {.d = d, .at = at};
+    search s = {.at = at};
     if (!find_function(d, at.pc, &s.function)) return 0;
+    s.at.pc -= d->bias;
     look_in(&s, &s.function, "", 0);
     if (s.found != 1 || !s.name || !*s.name) return 0;
     text to = {buffer, size, s.offset};

@@ -25,8 +25,8 @@ static int find_member(view *v, Dwarf_Die type, const char *name, Dwarf_Die *fou
     Dwarf_Die e, of;
     if (depth > MOST_DIMENSIONS || !plain_type(&type)) return 0;
     int is_union = dwarf_tag(&type) == DW_TAG_union_type;
-    for (int more = !dwarf_child(&type, &e); more
-         && v->entries++ < MOST_ENTRIES; more = !dwarf_siblingof(&e, &e)) {
+    EACH_CHILD(&e, &type) {
+        if (v->entries++ >= MOST_ENTRIES) break;
         u64 place = 0, bits, inside;
         int tag = dwarf_tag(&e), is_part = tag == DW_TAG_member || tag == DW_TAG_inheritance, is_found;
         int is_placed = is_part && (place_of_member(&e, &place) || place_of_bits(&e, &bits, &bits)
@@ -329,12 +329,10 @@ static int begin_of_object(const meaning *m, const place_in_block *at, u64 size,
 
 meaning meaning_in_line(struct debug *d, u64 pc, int is_write, const char *line, int column) {
     static const meaning none;
-    Dwarf_Die scopes[MOST_STEPS];
     view v = {.d = d};
     meaning m = none;
-    if (!find_unit(d, pc, &v.unit) || !find_function(d, pc, &v.function) || (size_t)column > strlen(line))
+    if (!find_unit(d, pc, &v.unit) || !find_innermost(d, pc, &v.function) || (size_t)column > strlen(line))
         return none;
-    v.function = scopes[scopes_at(v.function, pc - d->bias, scopes, MOST_STEPS) - 1];
     return means_at(&v, line, line + column - 1, is_write, &m) && m.has_member && m.has_object ? m : none;
 }
 
