@@ -39,24 +39,19 @@ static int is_type(int tag) {
 }
 
 int add_qualified_name(const Dwarf_Die *of, text *to) {
-    Dwarf_Die named = *of, scope, e, next;
+    Dwarf_Die named = *of, scope, e;
     for (int steps = 0; steps < MOST_STEPS && origin_of(&named); steps++) {}
     const int of_type = is_type(dwarf_tag(&named));
     const char *before = "";
-    const void *last = 0;
-    int more = dwarf_diecu(&named, &scope, 0, 0) && first_entry(&scope, &e, &last);
-    for (int depth = 0; more && depth < MOST_STEPS;) {
-        const void *at = last;
-        next = e;
-        int is_in = !next_entry(&next, &at) || (const char *)next.addr > (const char *)named.addr;
-        if ((const char *)e.addr > (const char *)named.addr) return 0;
-        if (!is_in) {
-            e = next;
-            last = at;
-            continue;
-        }
-        int tag = dwarf_tag(&e);
-        const char *name = dwarf_diename(&e);
+    if (!dwarf_diecu(&named, &scope, 0, 0)) return 0;
+    for (int depth = 0; depth < MOST_STEPS; depth++) {
+        Dwarf_Die at = {0};            /* is the named one, or has it inside */
+        const void *last = scope.addr;
+        int more = first_entry(&scope, &e, &last);
+        for (; more && (char *)e.addr <= (char *)named.addr; more = next_entry(&e, &last)) at = e;
+        if (!at.addr) return 0;
+        int tag = dwarf_tag(&at);
+        const char *name = dwarf_diename(&at);
         int is_in_code = tag == DW_TAG_module || tag == DW_TAG_subprogram || tag == DW_TAG_variable;
         int has_name = name && (tag == DW_TAG_namespace || is_type(tag) || (is_in_code && !of_type));
         char *begin = to->at;
@@ -65,10 +60,8 @@ int add_qualified_name(const Dwarf_Die *of, text *to) {
         size_t length = strcspn(begin, of_type ? "" : "<");  /* of a function without what it is made for */
         to->room += to->at - (begin + length);
         *(to->at = begin + length) = 0;
-        if (e.addr == named.addr) return has_name;
-        scope = e;
-        more = first_entry(&scope, &e, &last);
-        depth++;
+        if (at.addr == named.addr) return has_name;
+        scope = at;
     }
     return 0;
 }

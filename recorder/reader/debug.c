@@ -27,11 +27,6 @@ Elf *own_file(struct debug *d) {
     return d->file ? dwfl_module_getelf(d->file, &bias) : 0;
 }
 
-int has_own_lines(struct debug *d) {
-    Elf *elf = own_file(d);
-    return elf && has_section(elf, ".debug_line");
-}
-
 /* What units have, in namespaces too: functions with code, and with types. */
 typedef struct { int has_code, has_types; } functions;
 static int note_functions(void *to, Dwarf_Die *e) {

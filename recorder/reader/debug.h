@@ -66,10 +66,9 @@ char *told_name(const Dwarf_Die *of);  /* "next_id::last", of a function or vari
 /* debug.c */
 struct debug *open_debug(const char *path);
 Elf *own_file(struct debug *d);        /* the module's; null if it can't be read */
-int has_section(Elf *elf, const char *name);                 /* also one compressed as `.zdebug` is */
+int has_section(Elf *elf, const char *name);                 /* also one that is compressed, .zdebug */
 void read_units(struct debug *d);
 const char *why_unread(struct debug *d);                     /* what of it isn't read, or null */
-int has_own_lines(struct debug *d);    /* in the module's file itself */
 /* For each child of an entry. */
 #define EACH_CHILD(e, in) \
     for (int its_more = !dwarf_child((in), (e)); its_more; its_more = !dwarf_siblingof((e), (e)))

@@ -133,7 +133,7 @@ void tell_calls(struct debug *d) {
     enum { BYTES = 5 };
     code_of_calls c = {0};
     Elf *elf = own_file(d);
-    if (!elf || !tell_symbols(elf, SHT_DYNSYM, "export")) return;
+    if (!tell_symbols(elf, SHT_DYNSYM, "export")) return;
     read_code(&c, elf);
     read_slots(&c, elf);
     for (u64 place = 0; place + BYTES <= c.size; place++) {

@@ -109,7 +109,7 @@ static void answer_request(struct debug *d, const request *r, const u64 *numbers
     case ASK_VARIABLE: if (is_variable(d, (const char *)numbers)) answer(0, 0, "", ""); break;
     case ASK_FRAMES: answer_frames(d, numbers, r->count); break;
     case ASK_SOURCES: each_source(d, give_source); break;
-    case ASK_OWN_LINES: if (has_own_lines(d)) answer(0, 0, "", ""); break;
+    case ASK_OWN_LINES: if (has_section(own_file(d), ".debug_line")) answer(0, 0, "", ""); break;
     case ASK_UNREAD: if ((text = why_unread(d))) answer(0, 0, text, ""); break;
     case ASK_MEMBER: answer_members(d, numbers[0], numbers + 1, r->count - 1); break;
     case ASK_LOCAL:
