@@ -153,4 +153,4 @@ class Refused(program.Case):
     def test_a_report_without_end(self):
         with open("/dev/zero", "rb") as zeros, \
                 self.assertRaisesRegex(BadReport, "line 1 of the report is too long"):
-            Lines(zeros).next(re.compile(b"shb"), "shb-report 2")
+            Lines(zeros).take(False, "shb-report 2")

@@ -5,25 +5,14 @@ ends with `end`.
 """
 
 import collections
-import io
 import re
 
 from shb_common.limits import LINE_ROOM, MOST_LINE
 from shb_common.words import printable
 
-NUMBER = rb"(0|[1-9][0-9]{0,19})"
-VERSION = re.compile(rb"shb-report 2\n")
-COUNTS = re.compile(rb"events %b threads %b locks %b variables %b\n" % ((NUMBER,) * 4))
-RACES = re.compile(rb"races %b\n" % NUMBER)
-PLACES = re.compile(rb"places %b\n" % NUMBER)
-PLACE = re.compile(rb"place %b: %b\n" % (NUMBER, NUMBER))
-AT, AND = (re.compile(rb"%b ([^\n]{0,%d})\n" % (word, MOST_LINE)) for word in (b"at", b"and"))
-WHOLE_PLACE = re.compile(PLACE.pattern + AT.pattern + AND.pattern)
-RACE = re.compile(rb"race %b: %b %b\n" % (NUMBER, NUMBER, NUMBER))
-FIRST, SECOND = (re.compile(word + rb" (([^\n|]+)\|([rw])\(([^\n|]+)\)(?:\|([^\n]*))?)\n")
-                 for word in (rb"first", rb"second"))
-SCHEDULE = re.compile(rb"schedule %b:" % NUMBER)
-END = re.compile(rb"end\n")
+NUMBER = re.compile(rb"[0-9]{1,20}")
+ACCESS = re.compile(rb"(([^\n|]+)\|([rw])\(([^\n|]+)\)(?:\|([^\n]*))?)\n")
+SCHEDULE = re.compile(rb"schedule (0|[1-9][0-9]{0,19}):")
 MOST_EVENTS = 1_000     # of a schedule that is given as a list
 LONGEST = 60        # columns of a line that a refusal shows
 MOST_KNOWN = 10_000  # lines of accesses that are kept
@@ -51,13 +40,12 @@ def race_of(events, accesses):
 class Lines:
     """The lines of a report, one after the other, from where the file stands."""
 
-    def __init__(self, file, number=0):
-        self.file = file
-        self.number = number        # of the lines taken
+    def __init__(self, file):
+        self.file, self.number = file, 0    # of the lines taken
         # where the next line begins, and where it ends, counted from the report's first byte
         self.start = self.bytes = 0
         self.line = b""
-        self.known = {FIRST: {}, SECOND: {}}    # accesses by their lines, most of which come again
+        self.known = {}     # accesses by their lines, most of which come again
         self.advance()
 
     def advance(self):
@@ -65,46 +53,44 @@ class Lines:
         self.line = self.file.readline(LINE_ROOM)
         self.bytes += len(self.line)
 
-    def next(self, pattern, form):
-        """The groups of the next line, which has this pattern."""
+    def take(self, is_right, form):
+        """Goes beyond the next line, if it is right."""
         self.number += 1
-        found = pattern.fullmatch(self.line)
-        if found is None:
+        if not is_right:
             raise BadReport(f"line {self.number} of the report is {said(self.line)}; it should be `{form}`")
         self.advance()
-        return found.groups()
 
-    def numbers(self, pattern, form):
-        return [int(digits) for digits in self.next(pattern, form)]
+    def numbers(self, text, form):
+        """The numbers of the next line, which is this text with numbers."""
+        found = [int(digits) for digits in NUMBER.findall(self.line)]
+        self.take(len(found) == text.count(b"%d") and self.line == text % (*found,), form)
+        return found
 
-    def numbered(self, pattern, form, number):
+    def numbered(self, text, form, number):
         """The numbers of the next line but for its first, which is this one."""
-        found = self.numbers(pattern, form)
+        found = self.numbers(text, form)
         if found[0] != number:
             raise BadReport(f"line {self.number} of the report has the number {found[0]}; it should be "
                             f"`{form}`")
         return found[1:]
 
+    def location(self, word, form):
+        """What follows a word in the next line."""
+        line = self.line
+        is_short = len(line) <= len(word) + MOST_LINE + 1
+        self.take(is_short and line.startswith(word) and line.endswith(b"\n"), form)
+        return line[len(word):-1]
+
     def place(self, number):
-        """How many races the place with this number has, and its two locations. These lines may be very many,
-        so the three are read at once; if one is wrong, another reader says which."""
-        text = self.line + self.file.readline(LINE_ROOM) + self.file.readline(LINE_ROOM)
-        found = WHOLE_PLACE.fullmatch(text)
-        if found is None or int(found[1]) != number:
-            lines = Lines(io.BytesIO(text), self.number)
-            lines.numbered(PLACE, f"place {number}: C", number)
-            lines.next(AT, "at LOCATION")
-            lines.next(AND, "and LOCATION")
-        self.number += 3
-        self.bytes += len(text) - len(self.line)
-        self.advance()
-        return int(found[2]), found[3], found[4]
+        """How many races the place with this number has, and its two locations."""
+        [races] = self.numbered(b"place %d: %d\n", f"place {number}: C", number)
+        return races, self.location(b"at ", "at LOCATION"), self.location(b"and ", "and LOCATION")
 
     def accesses(self, what, first, second, events):
         """The lines of two accesses that conflict, each with its fields. They are of these events of so many;
         `what` has them."""
-        first_line, one = self.access(FIRST, "first ACCESS")
-        second_line, other = self.access(SECOND, "second ACCESS")
+        first_line, one = self.access(b"first ", "first ACCESS")
+        second_line, other = self.access(b"second ", "second ACCESS")
         if not 0 < first < second <= events:
             raise BadReport(f"{what} of the report: {first} and {second} aren't two events of the trace, the "
                             "earlier first")
@@ -112,21 +98,21 @@ class Lines:
             raise BadReport(f"{what} of the report: the events {first} and {second} don't conflict")
         return (first_line, one), (second_line, other)
 
-    def access(self, pattern, form):
-        line, known = self.line, self.known[pattern]
-        if line in known:
-            self.number += 1
-            self.advance()
-            return known[line]
-        access, *fields, location = self.next(pattern, form)
-        if len(known) == MOST_KNOWN:
-            known.clear()
-        known[line] = access, Access(*fields, location or b"")
-        return known[line]
+    def access(self, word, form):
+        """What follows a word in the next line, an access, with its fields."""
+        line = self.line
+        match = None if line in self.known else ACCESS.fullmatch(line, len(word))
+        if match:
+            if len(self.known) == MOST_KNOWN:
+                self.known.clear()
+            access, *fields, location = match.groups()
+            self.known[line] = access, Access(*fields, location or b"")
+        self.take(line in self.known and line.startswith(word), form)
+        return self.known[line]
 
     def end(self):
         """Takes the last line, after which nothing stands."""
-        self.next(END, "end")
+        self.take(self.line == b"end\n", "end")
         if self.line:
             raise BadReport(f"line {self.number + 1} of the report comes after `end`")
 
@@ -159,14 +145,15 @@ class Report:
 
     def __init__(self, file):
         self.lines = Lines(file)
-        self.lines.next(VERSION, "shb-report 2")
-        self.counts = Counts(*self.lines.numbers(COUNTS, "events E threads T locks L variables V"))
-        [self.count] = self.lines.numbers(RACES, "races R")
+        self.lines.take(self.lines.line == b"shb-report 2\n", "shb-report 2")
+        self.counts = Counts(*self.lines.numbers(b"events %d threads %d locks %d variables %d\n",
+                                                 "events E threads T locks L variables V"))
+        [self.count] = self.lines.numbers(b"races %d\n", "races R")
         # the latter is known when the first race is read
         self.places, self.has_schedules = self.read_places(), False
 
     def read_places(self):
-        [count] = self.lines.numbers(PLACES, "places P")
+        [count] = self.lines.numbers(b"places %d\n", "places P")
         found, locations = {}, {}
         for number in range(1, count + 1):
             races, first, second = self.lines.place(number)
@@ -191,7 +178,7 @@ class Report:
             raise BadReport("the places that the report begins with aren't those of its races")
 
     def read_race(self, number):
-        first, second = self.lines.numbered(RACE, f"race {number}: I J", number)
+        first, second = self.lines.numbered(b"race %d: %d %d\n", f"race {number}: I J", number)
         accesses = self.lines.accesses(f"race {number}", first, second, self.counts.events)
         (first_line, one), (second_line, other) = accesses
         if number == 1:
