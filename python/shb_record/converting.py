@@ -132,8 +132,6 @@ class Conversion:
                     chosen = choose(self.process, self.found)
                 except Refused as its:
                     fault = its
-                if self.found:
-                    listed.copy(self.place_list)
                 with contextlib.suppress(BrokenPipeError):  # its status says how it ended
                     ran.stdin.write(b"".join(lines_of(chosen)))
                     ran.stdin.close()

@@ -1,8 +1,6 @@
 """`shb places --list` on all that a process recorded: which places there are, and of which variables."""
 
 import os
-import shutil
-import tempfile
 
 from shb_common import analyser
 from shb_common.children import apart
@@ -16,11 +14,12 @@ class Contradiction(Refused):
 
 
 class Listing:
-    """A running `shb places --list`, which reads from a pipe. `descriptor` is where the trace is to be
-    written; it ends when whoever was started with it has ended, and `begun` was called."""
+    """A running `shb places --list`, which reads from a pipe and writes to the open file `text`. `descriptor`
+    is where the trace is to be written; it ends when whoever was started with it has ended, and `begun` was
+    called."""
 
-    def __init__(self, room):
-        self.text = tempfile.TemporaryFile(dir=room)
+    def __init__(self, text):
+        self.text = text
         self.races, self.counts = [], None  # of the run, when all is read, as a `Report` has them
         reading, self.descriptor = os.pipe()
         with open(reading, "rb") as pipe:
@@ -49,8 +48,3 @@ class Listing:
             return analyser.places_in(self.races)
         except BadReport as fault:
             raise Contradiction(f"`shb places --list` wrote no whole report: {fault}") from None
-
-    def copy(self, path):
-        self.text.seek(0)
-        with open(path, "wb") as out:
-            shutil.copyfileobj(self.text, out)

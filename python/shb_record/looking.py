@@ -142,7 +142,7 @@ class Look:
 
     def analyse(self, looked):
         check_room(looked.process, self.options.window)
-        with contextlib.closing(Listing(self.results.work)) as listed:
+        with contextlib.closing(Listing(open(looked.conversion.place_list, "w+b"))) as listed:
             looked.conversion.places(listed, self.choose)
             looked.places, looked.events = looked.conversion.found, looked.conversion.counts.events
         if looked.events:

@@ -7,6 +7,7 @@ import array
 import bisect
 import contextlib
 import subprocess
+import tempfile
 
 from shb_common.analyser import Place
 from shb_common.children import apart
@@ -30,7 +31,7 @@ class Second:
     def places(self, conversion, room):
         """The places of the trace without these accesses, with the events' numbers in the whole trace."""
         pipes = {"stdout": subprocess.PIPE, "stderr": subprocess.DEVNULL}
-        with contextlib.closing(Listing(room)) as listed, \
+        with contextlib.closing(Listing(tempfile.TemporaryFile(dir=room))) as listed, \
                 subprocess.Popen(conversion.list_words, **pipes, **apart()) as ran:
             try:
                 with contextlib.suppress(BrokenPipeError):  # if `shb` ended early, its status says why
