@@ -12,11 +12,11 @@ BEGIN = b"shb-uses 2\n"
 OTHER = "is of another version of shb: its first line isn't `shb-uses 2`"
 WORDS = b"r", b"w", b"a", b"f"
 OF_STACKS = b"bare", b"held", b"many"
-KINDS = {b"by", b"under", b"reading", *OF_STACKS}
+KINDS = b"by", b"under", b"reading", *OF_STACKS
 
 # The accesses of a variable at a location in one way: `word` is r, w, a (written atomically) or f (freed);
-# `local` the local that a variable on a stack was then, or nothing. Each of `sums` is a kind, a count, and a
-# stack's number, a thread or a lock.
+# `local` the local that a variable on a stack was then, or nothing. `sums` has by kind how many there are of
+# each thread, lock or stack (by its number).
 Use = collections.namedtuple("Use", "word variable local location sums")
 
 
@@ -48,12 +48,12 @@ class Uses:
         kind = fields[0]
         if kind == b"use":
             word, variable, local, location, *sums = fields[1:]
-            kinds, counts = sums[::3], sums[1::3]
-            if (word not in WORDS or len(sums) % 3 or not KINDS.issuperset(kinds)
-                or counts and not b"".join(counts).isdigit()):
+            counts = sums[1::3]
+            if word not in WORDS or len(sums) % 3 or counts and not b"".join(counts).isdigit():
                 raise ValueError
-            its = [(kind, count, int(of) if kind in OF_STACKS else of)
-                   for kind, count, of in zip(kinds, map(int, counts), sums[2::3])]
+            its = {kind: {} for kind in KINDS}
+            for kind, count, of in zip(sums[::3], map(int, counts), sums[2::3]):
+                its[kind][int(of) if kind in OF_STACKS else of] = count
             self.uses.append(Use(word, variable, local, location, its))
         elif kind == b"event":
             in_page, in_run = map(whole, fields[1:])

@@ -223,8 +223,8 @@ class Counting:
             group = groups.get(variable)
             if group is None or kinds.locals.get(variable, local) != local and variable.startswith(b"stack."):
                 continue
-            for kind, count, stack in sums:
-                if kind in OF_STACKS:
+            for kind in OF_STACKS:
+                for stack, count in sums[kind].items():
                     self.callers[variable, location][stack, kind == b"bare"] += count
             if word != b"f":
                 self.used[group].at(variable, location).add(word, sums, kinds.locks)

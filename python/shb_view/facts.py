@@ -3,11 +3,11 @@ holds for the trace and for each variable of the listed races, and names no faul
 group's."""
 
 import collections
-import copy
 import functools
 import re
 
 from shb_common.result import text
+from shb_common.uses import KINDS
 from shb_common.words import counted
 from shb_view.groups import name_parts
 from shb_view.held import read_lock
@@ -36,7 +36,7 @@ class Site:
     """A line that uses the variables, with what is counted there."""
 
     def __init__(self, location):
-        self.location = location
+        self.location, self.total, self.variables = location, 0, set()
         self.accesses = collections.defaultdict(int)  # by word
         self.threads = collections.defaultdict(int)
         self.writers = set()  # threads
@@ -45,18 +45,14 @@ class Site:
         self.wrong = collections.defaultdict(int)  # how many of these write
         self.bare = 0  # accesses that hold no lock
         self.unknown = 0  # accesses whose locks aren't counted
-        self.variables = set()
         self.partners = {}  # the lines that it races with, with how many races
         self.later = set()  # those of these whose access came later in a race that was read
-
-    def total(self):
-        return sum(self.accesses.values())
 
     def reads(self):
         return self.accesses[b"r"] > 0
 
     def writes(self):
-        return self.total() > self.accesses[b"r"]
+        return self.total > self.accesses[b"r"]
 
     @functools.cached_property
     def guards(self):
@@ -71,40 +67,44 @@ class Site:
 
     def lacks(self, lock):
         """Whether some access doesn't hold the lock as it has to."""
-        return self.guarded(lock) < self.total()
+        return self.guarded(lock) < self.total
 
+    @functools.cached_property
     def held(self):
-        total = self.total()
-        return sorted(lock for lock, count in self.guards.items() if count == total)
+        return sorted(lock for lock, count in self.guards.items() if count == self.total)
 
     def add(self, word, sums, locals):
         """Takes accesses, as `uses.Use` has them; `locals` names locks on stacks."""
-        for kind, count, name in sums:
-            if kind == b"under":
-                self.locks[locals.get(name, name)] += count
-            elif kind == b"by":
-                self.accesses[word] += count
-                self.threads[name] += count
-                self.writers.update([name] * (word != b"r"))
-            elif kind == b"reading":
-                lock = locals.get(name, name)
-                self.reading[lock] += count
-                self.wrong[lock] += count * (word != b"r")
-            elif kind == b"bare":
-                self.bare += count
-            elif kind == b"many":
-                self.unknown += count
+        by, count = sums[b"by"], sum(sums[b"by"].values())
+        self.total += count
+        self.accesses[word] += count
+        add_to(self.threads, by, {})
+        add_to(self.locks, sums[b"under"], locals)
+        add_to(self.reading, sums[b"reading"], locals)
+        if word != b"r":
+            self.writers.update(by)
+            add_to(self.wrong, sums[b"reading"], locals)
+        self.bare += sum(sums[b"bare"].values())
+        self.unknown += sum(sums[b"many"].values())
 
     def take(self, other, names):
         """Takes what another one has; `names` has the locks that have another name here."""
+        self.variables |= other.variables
         self.writers |= other.writers
+        self.total += other.total
         self.bare += other.bare
         self.unknown += other.unknown
-        for mine, others in ((self.accesses, other.accesses), (self.threads, other.threads),
-                             (self.locks, other.locks), (self.reading, other.reading),
-                             (self.wrong, other.wrong)):
-            for key, count in others.items():
-                mine[names.get(key, key)] += count
+        add_to(self.accesses, other.accesses, {})
+        add_to(self.threads, other.threads, {})
+        add_to(self.locks, other.locks, names)
+        add_to(self.reading, other.reading, names)
+        add_to(self.wrong, other.wrong, names)
+
+
+def add_to(sums, others, names):
+    """Adds further sums; `names` has what has another name here."""
+    for key, count in others.items():
+        sums[names.get(key, key)] += count
 
 
 class Fact(collections.namedtuple("Fact", "form said tag sentences remedy lock handed",
@@ -156,6 +156,7 @@ class Sites:
         sites = self.variables.setdefault(variable, {}) if variable else self.frees
         if location not in sites:
             sites[location] = Site(location)
+            sites[location].variables.add(variable)
         return sites[location]
 
     def of(self, variable):
@@ -163,7 +164,7 @@ class Sites:
         return Sites({variable: self.variables.get(variable, {})}, self.frees)
 
     def total(self):
-        return sum(site.total() for its in (*self.variables.values(), self.frees) for site in its.values())
+        return sum(site.total for its in (*self.variables.values(), self.frees) for site in its.values())
 
 
 def sites_in(counts):
@@ -177,12 +178,14 @@ def sites_in(counts):
 
 def sums_of(thread, locks, count):
     """Accesses of a kind, as `uses.Use` has them; `locks` is None where they aren't counted."""
-    yield b"by", count, thread
+    sums = {kind: {} for kind in KINDS}
+    sums[b"by"][thread] = count
     if not locks:
-        yield b"many" if locks is None else b"bare", count, 0
+        sums[b"many" if locks is None else b"bare"][0] = count
     for lock in locks or ():
         shared = read_lock(lock)
-        yield b"reading" if shared else b"under", count, shared or lock
+        sums[b"reading" if shared else b"under"][shared or lock] = count
+    return sums
 
 
 def joined(uses):
@@ -191,7 +194,7 @@ def joined(uses):
     for one in uses:
         found.variables.update(one.variables)
         for location, site in one.frees.items():
-            found.frees[location] = max(found.frees.get(location, site), site, key=Site.total)
+            found.frees[location] = max(found.frees.get(location, site), site, key=lambda it: it.total)
     return found
 
 
@@ -202,10 +205,10 @@ class Locks:
 
     def __init__(self, uses, private):
         """`private` are locks on stacks that one thread alone uses: none of these is told."""
-        self.own, self.private = {}, private
-        self.held = {variable: held_at(sites.values()) for variable, sites in uses.variables.items()}
-        held = [(-count, name, lock) for name, its in self.held.items() for lock, count in its.items()]
-        for _, variable, lock in sorted(held) if len(self.held) > 1 else ():
+        self.own, self.private, self.uses = {}, private, uses.variables
+        held = [(-count, variable, lock) for variable, sites in self.uses.items()
+                for lock, count in held_at(sites.values()).items()] if len(self.uses) > 1 else []
+        for _, variable, lock in sorted(held):
             self.own.setdefault(alike(lock), {}).setdefault(variable, lock)
         self.named = collections.defaultdict(dict)  # by variable: its own locks, with their names
         for name, own in self.own.items():
@@ -216,16 +219,16 @@ class Locks:
         """By variable: the lock of this name."""
         if isinstance(name, Own):
             return self.own[name]
-        return {variable: name for variable, its in self.held.items() if name in its}
+        return {variable: name for variable, sites in self.uses.items()
+                if any(name in site.locks or name in site.reading for site in sites.values())}
 
 
 def held_at(sites):
     """How many accesses hold each lock, for reading or not."""
     found = collections.defaultdict(int)
     for site in sites:
-        for locks in (site.locks, site.reading):
-            for lock, count in locks.items():
-                found[lock] += count
+        add_to(found, site.locks, {})
+        add_to(found, site.reading, {})
     return found
 
 
@@ -236,7 +239,11 @@ def sites_of(group, uses, private):
     for variable, its in (*uses.variables.items(), (b"", uses.frees)):
         for location, site in its.items():
             at[location].append((variable, site))
-    sites = {location: as_one(its, locks.named) for location, its in at.items()}
+    sites = {}
+    for location, its in at.items():
+        (variable, site), *others = its
+        is_same = not others and location not in racing and not locks.named[variable]
+        sites[location] = site if is_same else as_one(location, its, locks.named)
     for pair in group.pairs:
         one, other = pair.locations
         for location, partner in {(one, other), (other, one)}:
@@ -246,21 +253,15 @@ def sites_of(group, uses, private):
             if first in sites:
                 sites[first].later.add(second)
     order = sorted(sites.values(), key=lambda site: (site.location is None, by_numbers(site.location or b"")))
-    return (sorted(order, key=lambda site: (site.location not in racing, not site.writes(), -site.total())),
+    return (sorted(order, key=lambda site: (site.location not in racing, not site.writes(), -site.total)),
             locks)
 
 
-def as_one(its, named):
-    """The sites of several variables at a line as one; `named` has the locks that have other names there."""
-    variable, found = its[0]
-    if len(its) == 1 and not named[variable]:
-        found = copy.copy(found)  # with the same counts
-        found.partners, found.later = {}, set()
-    else:
-        found = Site(found.location)
-        for variable, site in its:
-            found.take(site, named[variable])
-    found.variables = {variable for variable, _ in its}
+def as_one(location, its, named):
+    """The sites of variables at a line as a new one; `named` has the locks that have other names there."""
+    found = Site(location)
+    for variable, site in its:
+        found.take(site, named[variable])
     return found
 
 
@@ -268,7 +269,7 @@ def fact_of(sites, locks, whole, published=()):
     """The first fact that holds. `whole` is a trace or a run, `published` as `handed.published` has it."""
     racing = [site for site in sites if site.partners]
     # a line that frees alone says nothing of locks
-    used = [site for site in sites if site.accesses[b"f"] < site.total()]
+    used = [site for site in sites if site.accesses[b"f"] < site.total]
     of_locks = (uncounted(used, whole) if any(site.unknown for site in used)
                 else lock_fact(used, racing, locks, whole))
     if of_locks and of_locks.form == "without" and any(pair.store.kind == b"update" for pair, _ in published):
@@ -347,7 +348,7 @@ def freed(racing, whole):
     uses = ["the use at ", *at] if used else ["another free of it"]
     sentence = [f"In this {whole} ", *listed([[Code(thread)] for thread in threads], MOST_NAMED),
                 f" {verb} the block at ", *lines_of(frees), ", and nothing orders the free and ", *uses, "."]
-    found = set().union(*(site.later for site in frees if site.accesses[b"f"] == site.total()))
+    found = set().union(*(site.later for site in frees if site.accesses[b"f"] == site.total))
     after = [site for site in racing if site.location in found and not site.accesses[b"f"]]
     said = {"frees": names_of(frees), "uses": list(map(text, used)), "after": names_of(after)}
     remedy = ["don't use it at ", *at, " once it may be freed at ", *lines_of(frees),
@@ -386,7 +387,7 @@ def by_weight(sites, locks):
     for site in sites:
         for lock, count in site.guards.items():
             guarded[lock] += count
-        holding.update(site.held())
+        holding.update(site.held)
     def weight(lock):
         return -holding[lock], -guarded[lock], not isinstance(lock, Own), lock
     return sorted(guarded.keys() - locks.private, key=weight), holding.keys() - locks.private
@@ -401,7 +402,7 @@ def lock_fact(sites, racing, locks, whole):
             found = rule(sites, racing, lock, locks, whole)
             if found:
                 return found
-    return apart(racing, locks, whole) if any(site.bare < site.total() for site in sites) else None
+    return apart(racing, locks, whole) if any(site.bare < site.total for site in sites) else None
 
 
 def under_read_lock(sites, racing, lock, locks, whole):
@@ -430,11 +431,11 @@ def without(sites, racing, lock, locks, whole):
            "lines": ["every access at ", *lines_of(holding)]}[scope]
     some = [site for site in lacking if site.guarded(lock)]
     name, lines, verb = lock_name(lock), lines_of(lacking), verb_of(lacking)
-    at = (f" at {sum(site.total() - site.guarded(lock) for site in lacking):,} of "
-          f"{sum(site.total() for site in lacking):,} accesses" if some else "")
+    at = (f" at {sum(site.total - site.guarded(lock) for site in lacking):,} of "
+          f"{sum(site.total for site in lacking):,} accesses" if some else "")
     sentence = [f"In this {whole} ", *who, " holds ", *name, ", and ", *lines, f" {verb} without it{at}."]
-    instead = [[place(site.location), " holds ", *listed(map(lock_name, site.held()), MOST_NAMED)]
-               for site in lacking if site.held()]
+    instead = [[place(site.location), " holds ", *listed(map(lock_name, site.held), MOST_NAMED)]
+               for site in lacking if site.held]
     if instead:
         sentence += [" ", *listed(instead, MOST_NAMED), "."]
     said = {"lines": names_of(lacking), "sometimes": names_of(some), "scope": scope,
@@ -466,7 +467,7 @@ def is_rule(lacking, holding, variables, lock, is_member):
         return False
     if not is_member and not any(site.writes() for site in holding) and any(site.reads() for site in lacking):
         return False
-    is_bare = all(site.bare == site.total() for site in lacking)
+    is_bare = all(site.bare == site.total for site in lacking)
     return is_bare or any(site.guarded(lock) for site in lacking) or len(holding) > len(lacking)
 
 
@@ -490,9 +491,9 @@ def sometimes(sites, racing, lock, locks, whole):
             and not holds_another(site, lock)]
     if not some:
         return None
-    counts = [[f"{site.guarded(lock):,} of {counted(site.total(), 'access', 'accesses')} at ",
+    counts = [[f"{site.guarded(lock):,} of {counted(site.total, 'access', 'accesses')} at ",
                place(site.location)] for site in some]
-    said = {"lines": {text(site.location or b""): [site.guarded(lock), site.total()] for site in some},
+    said = {"lines": {text(site.location or b""): [site.guarded(lock), site.total] for site in some},
             "name": text(lock), "locks": by_variable(locks, lock)}
     name = lock_name(lock)
     sentence = [f"In this {whole} ", *name, " is held at ", *listed(counts, MOST_NAMED), "."]
@@ -508,27 +509,27 @@ def holds_another(site, lock):
     """Whether the accesses without a lock hold others that differ by numbers alone, as each object's own."""
     kind = DIGITS.sub(b"", lock)
     alike = [one for one in site.guards if DIGITS.sub(b"", one) == kind]
-    return len(alike) > 1 and sum(map(site.guarded, alike)) >= site.total()
+    return len(alike) > 1 and sum(map(site.guarded, alike)) >= site.total
 
 
 def unlike_words(site):
     """What a line holds at whose accesses no lock is common."""
-    if site.bare == site.total():
+    if site.bare == site.total:
         return "no lock"
     return "no lock at some accesses" if site.bare else "a lock, but not the same each time"
 
 
 def apart(racing, locks, whole):
     """No lock is held at every access of all racing lines."""
-    common = set.intersection(*(set(site.held()) for site in racing))
+    common = set.intersection(*(set(site.held) for site in racing))
     if common:
         name = lock_name(min(common))
         sentence = [f"In this {whole} every access holds ", *name, ": these are no races."]
         return Fact("ordered", {}, ["every access holds ", *name], [sentence])
-    held = [listed(map(lock_name, site.held()), MOST_NAMED) or [unlike_words(site)] for site in racing]
+    held = [listed(map(lock_name, site.held), MOST_NAMED) or [unlike_words(site)] for site in racing]
     holds = [[place(site.location), " holds ", *its] for site, its in zip(racing, held)]
-    all_hold = all(site.held() for site in racing)
-    is_bare = racing[0].bare == racing[0].total()
+    all_hold = all(site.held for site in racing)
+    is_bare = racing[0].bare == racing[0].total
     alone = f" {verb_of(racing)} without a lock" if is_bare else f" holds {unlike_words(racing[0])}"
     several = " hold different locks" if all_hold else " have no lock in common"
     tag = [*lines_of(racing), alone if len(racing) == 1 else several]
@@ -566,8 +567,8 @@ def by_variable(locks, lock):
 
 def held_of(sites, locks):
     """By line: each lock that is held there at each access, by variable."""
-    return {text(site.location or b""): [by_variable(locks, lock) for lock in site.held()]
-            for site in sites if site.held()}
+    return {text(site.location or b""): [by_variable(locks, lock) for lock in site.held]
+            for site in sites if site.held}
 
 
 def names_of(sites):

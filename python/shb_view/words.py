@@ -72,7 +72,7 @@ def thread_parts(site):
 
 def lock_words(site):
     """What is said of the locks held at a line: pairs of `held`, `some` or `none`, and parts."""
-    total = site.total()
+    total = site.total
     holds = {(name, ""): count for name, count in site.locks.items()}
     holds.update({(name, " for reading"): count for name, count in site.reading.items()})
     names = sorted(holds, key=lambda hold: (-holds[hold], hold))

@@ -72,7 +72,9 @@ class Uses(recorder.Case):
         path, line = self.folder / "uses", "use\tr\tx\t\ta.c:1\tby\t1\tT1\tbare\t1\t0\n"
         path.write_text(f"shb-uses 2\n{line}events\t0\n")
         [use] = files.Uses(path).uses
-        self.assertEqual(use, (b"r", b"x", b"", b"a.c:1", [(b"by", 1, b"T1"), (b"bare", 1, 0)]))
+        sums = {kind: its for kind, its in use.sums.items() if its}
+        self.assertEqual(use[:4], (b"r", b"x", b"", b"a.c:1"))
+        self.assertEqual(sums, {b"by": {b"T1": 1}, b"bare": {0: 1}})
         for text, said in ((f"{line}events\t0\n", "is of another version"),
                            ("shb-uses 1\n", "is of another version"), ("", "is of another version"),
                            *((f"shb-uses 2\n{line.replace(*change)}events\t0\n", "is damaged in line 2")
