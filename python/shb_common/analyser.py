@@ -1,6 +1,7 @@
 """Runs `shb` on traces, and reads what it says of their places."""
 
 import collections
+import contextlib
 import os
 import subprocess
 import tempfile
@@ -9,7 +10,7 @@ from shb_common import variables
 from shb_common.refused import without_note
 from shb_common.report import BadReport
 
-MOST_SAID = 4_096   # bytes of what the program says that are kept
+MOST_SAID = 65_536  # bytes of what a program says that are kept
 MOST_WORDS = 500    # of these, those that are told as words of one line
 HEAD, FULL, LIST = ["races", "--list"], ["places"], ["places", "--list"]
 VARIABLES, LIST_VARIABLES = [*FULL, "--variables"], [*LIST, "--variables"]
@@ -29,7 +30,8 @@ class Answer(collections.namedtuple("Answer", "status said seconds kib", default
 
 
 class Run:
-    """A running command. `given` is an open file that it reads, and `out` one that it writes, or PIPE."""
+    """A running command. `given` is an open file that it reads, and `out` one that it writes; both may be a
+    PIPE."""
 
     def __init__(self, words, given, out, **how):
         self.said = tempfile.TemporaryFile()
@@ -42,6 +44,12 @@ class Run:
 
     def __enter__(self):
         return self
+
+    def give(self, texts):
+        """Writes all that it reads from a pipe. If it reads no more, its status says how it ended."""
+        with contextlib.suppress(BrokenPipeError):
+            with self.process.stdin as given:
+                given.writelines(texts)
 
     def answer(self):
         """Waits for the end. What it writes to a pipe isn't read any more."""

@@ -1,14 +1,13 @@
 """From a record to traces."""
 
 import collections
-import contextlib
 import itertools
 import re
 import shutil
 import signal
-import subprocess
-import tempfile
+from subprocess import PIPE
 
+from shb_common.analyser import Run
 from shb_common.children import apart
 from shb_common.stacks import BadStacks, Stacks
 from shb_common.sums import sha256
@@ -121,26 +120,20 @@ class Conversion:
 
     def places(self, listed, choose):
         """Finds the places of the run. The page's trace then has those that `choose` returns of them."""
-        pipes = {"stdin": subprocess.PIPE, "stdout": listed.descriptor, **apart()}
-        with tempfile.TemporaryFile() as said, subprocess.Popen(self.words, stderr=said, **pipes) as ran:
+        with Run(self.words, PIPE, listed.descriptor, **apart()) as ran:
             listed.begun()
+            chosen, fault = [], None
             try:
-                chosen, fault = [], None
-                try:
-                    self.found = listed.places()
-                    self.races, self.counts = listed.races, listed.counts
-                    chosen = choose(self.process, self.found)
-                except Refused as its:
-                    fault = its
-                with contextlib.suppress(BrokenPipeError):  # its status says how it ended
-                    ran.stdin.write(b"".join(lines_of(chosen)))
-                    ran.stdin.close()
-                status = ran.wait()
-                if fault and status in (0, NOT_WHOLE, -signal.SIGPIPE):
-                    raise type(fault)(f"{self.process.name}: {fault}")
-                self.end(status, said)
-            finally:
-                ran.kill()
+                self.found = listed.places()
+                self.races, self.counts = listed.races, listed.counts
+                chosen = choose(self.process, self.found)
+            except Refused as its:
+                fault = its
+            ran.give(lines_of(chosen))
+            answer = ran.answer()
+            if fault and answer.status in (0, NOT_WHOLE, -signal.SIGPIPE):
+                raise type(fault)(f"{self.process.name}: {fault}")
+            self.end(answer)
         if chosen:
             self.note_page(chosen)
 
@@ -176,16 +169,16 @@ class Conversion:
 
     def write_page(self, places):
         """Writes the trace of a page anew, around the races of these places."""
-        with tempfile.TemporaryFile() as said, open(self.trace, "wb") as out:
-            words = [CONVERTER, "--only", "/dev/stdin", "--uses", self.uses, "--stacks", self.stacks,
-                     *self.page_words]
-            self.end(subprocess.run(words, input=b"".join(lines_of(places)), stdout=out, stderr=said,
-                                    **apart()).returncode, said)
+        words = [CONVERTER, "--only", "/dev/stdin", "--uses", self.uses, "--stacks", self.stacks,
+                 *self.page_words]
+        with open(self.trace, "wb") as out, Run(words, PIPE, out, **apart()) as ran:
+            ran.give(lines_of(places))
+            self.end(ran.answer())
         self.note_page(places)
 
-    def end(self, status, file):
-        file.seek(0)
-        said = file.read().decode(errors="backslashreplace").replace("shb-std: ", "").splitlines()
+    def end(self, answer):
+        status = answer.status
+        said = answer.said.decode(errors="backslashreplace").replace("shb-std: ", "").splitlines()
         if status not in (0, NOT_WHOLE):
             how = f"status {status}" if status > 0 else f"signal {-status}"
             raise Refused(f"{self.process.name}: {'; '.join(said) or f'shb-std ended with {how}'}")

@@ -6,10 +6,10 @@ are harmless."""
 import array
 import bisect
 import contextlib
-import subprocess
 import tempfile
+from subprocess import PIPE
 
-from shb_common.analyser import Place
+from shb_common.analyser import Place, Run
 from shb_common.children import apart
 from shb_record.listing import Listing
 
@@ -30,17 +30,13 @@ class Second:
 
     def places(self, conversion, room):
         """The places of the trace without these accesses, with the events' numbers in the whole trace."""
-        pipes = {"stdout": subprocess.PIPE, "stderr": subprocess.DEVNULL}
         with contextlib.closing(Listing(tempfile.TemporaryFile(dir=room))) as listed, \
-                subprocess.Popen(conversion.list_words, **pipes, **apart()) as ran:
-            try:
-                with contextlib.suppress(BrokenPipeError):  # if `shb` ended early, its status says why
-                    with open(listed.descriptor, "wb", closefd=False) as out:
-                        self.write_rest(ran.stdout, out)
-                listed.begun()
-                return list(map(self.in_whole, listed.places()))
-            finally:
-                ran.kill()
+                Run(conversion.list_words, None, PIPE, **apart()) as ran:
+            with contextlib.suppress(BrokenPipeError):  # if `shb` ended early, its status says why
+                with open(listed.descriptor, "wb", closefd=False) as out:
+                    self.write_rest(ran.out, out)
+            listed.begun()
+            return list(map(self.in_whole, listed.places()))
 
     def in_whole(self, place):
         """A place with the numbers that its events have in the whole trace."""
