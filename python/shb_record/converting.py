@@ -116,17 +116,21 @@ class Conversion:
         self.size, self.notes, self.cuts = "", [], []
         # `used` and `called` have what the files of a page's trace have
         self.numbers, self.used, self.called = {}, None, None
-        self.found, self.races, self.counts = [], [], None  # of the run, once they are listed
+        # once they are listed: the places of the run, of these what no process before had (`places.New`), all
+        # as `Places.add_new` names them, and what a second look found behind known races
+        self.places, self.new, self.named, self.behind = [], [], [], []
+        self.races, self.counts, self.events = [], None, 0  # of the run
+        self.has_files = False  # are those of its page among the results?
 
-    def places(self, listed, choose):
+    def find(self, listed, choose):
         """Finds the places of the run. The page's trace then has those that `choose` returns of them."""
         with Run(self.words, PIPE, listed.descriptor, **apart()) as ran:
             listed.begun()
             chosen, fault = [], None
             try:
-                self.found = listed.places()
-                self.races, self.counts = listed.races, listed.counts
-                chosen = choose(self.process, self.found)
+                self.places = listed.places()
+                self.races, self.counts, self.events = listed.races, listed.counts, listed.counts.events
+                chosen = choose(self.process, self.places)
             except Refused as its:
                 fault = its
             ran.give(lines_of(chosen))

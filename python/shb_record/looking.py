@@ -21,16 +21,6 @@ MOST_KEPT = 3  # segments that couldn't be looked at
 LATE = "the C library comes before the recorder's"     # the end of such a record
 
 
-class Looked:
-    """What was found in a process: its places, and those that no process before it had."""
-
-    def __init__(self, process, options):
-        self.process, self.conversion = process, Conversion(process, options)
-        self.places, self.new, self.named, self.events = [], [], [], 0
-        self.behind = []  # what a second look found behind known races
-        self.has_files = False  # are those of its page among the results?
-
-
 class Look:
     """Looks at the records of runs that have ended (`Records`), or of one that goes on (`Segments`)."""
 
@@ -69,7 +59,7 @@ class Look:
             if self.is_cut:
                 words = shlex.join(["shb-record", "env", f"LD_PRELOAD={PRELOADED}", self.options.program,
                                     *self.options.arguments])
-                late = any(one and LATE in cut for one in looked for cut in one.conversion.cuts)
+                late = any(one and LATE in cut for one in looked for cut in one.cuts)
                 hint = f"; for a module with hooks that the program loads later run `{words}`"
                 raise Refused("nothing of the run was recorded" + hint * late)
             say(f"run {number}: {counted(len(looked), 'recorded process', 'recorded processes')}, none with "
@@ -80,7 +70,7 @@ class Look:
         doesn't keep others from being shown. Returns what was found in each, or None."""
         if len(self.runs) < number:
             self.runs.append([])
-        looked = [self.tried(self.analyse, Looked(process, self.options)) for process in found]
+        looked = [self.tried(self.analyse, Conversion(process, self.options)) for process in found]
         if self.options.known_path:
             looked = [one and self.tried(self.look_again, one) for one in looked]
         looked = [one and self.tried(self.show, one) for one in looked]
@@ -108,7 +98,7 @@ class Look:
         if looked.named:
             found = [(new.place, new.variables) for new in self.places.unknown_of(looked.new)]
         else:
-            found = [(place, place.variables) for place in looked.conversion.found]
+            found = [(place, place.variables) for place in looked.places]
             self.unshown += len(found)
         if found and not self.stops.first:  # else they were said before
             say(f"{looked.process.name}: {counted(len(found), 'place')} with races that can't be shown:")
@@ -142,9 +132,8 @@ class Look:
 
     def analyse(self, looked):
         check_room(looked.process, self.options.window)
-        with contextlib.closing(Listing(open(looked.conversion.place_list, "w+b"))) as listed:
-            looked.conversion.places(listed, self.choose)
-            looked.places, looked.events = looked.conversion.found, looked.conversion.counts.events
+        with contextlib.closing(Listing(open(looked.place_list, "w+b"))) as listed:
+            looked.find(listed, self.choose)
         if looked.events:
             self.modules.add(looked.process.modules)
         looked.new, looked.named = self.add_new(looked, looked.places)
@@ -153,24 +142,24 @@ class Look:
     def add_new(self, looked, places, is_behind=False):
         """Takes places of a process, as `Places.add_new` does; without a page they are earlier segments'."""
         process = looked.process
-        if places and not looked.conversion.used:
+        if places and not looked.used:
             return [], self.places.met_in(process, places)
         origin = Origin(None, process.program)
         if places:
-            self.modules.callers |= looked.conversion.called.files
-            origin = Origin(looked.conversion.called, process.program)
+            self.modules.callers |= looked.called.files
+            origin = Origin(looked.called, process.program)
             origin.add_modules(process.modules)
         return self.places.add_new(process, self.results.folder / f"{process.base}.std", origin, places,
-                                   looked.conversion.numbers, is_behind)
+                                   looked.numbers, is_behind)
 
     def keep_files(self, looked):
         """Moves the files of a page out of the folder of work; of a segment where something in it is new."""
         if looked.has_files or not (looked.new if self.options.live else looked.places):
             return
-        looked.has_files, conversion = True, looked.conversion
-        conversion.trace, conversion.place_list, conversion.uses, conversion.stacks = (
+        looked.has_files = True
+        looked.trace, looked.place_list, looked.uses, looked.stacks = (
             self.results.keep(path, f"{looked.process.base}{path.suffix}")
-            for path in (conversion.trace, conversion.place_list, conversion.uses, conversion.stacks))
+            for path in (looked.trace, looked.place_list, looked.uses, looked.stacks))
 
     def choose(self, process, places):
         """The places that are to be on a page: none of a segment with those of earlier ones alone. Those of a
@@ -191,19 +180,19 @@ class Look:
             return
         from shb_record.second import Second, besides  # takes its time, and most calls do without
         second = Second(accesses, races)
-        looked.behind = besides(looked.places, second.places(looked.conversion, self.results.work))
+        looked.behind = besides(looked.places, second.places(looked, self.results.work))
         self.passed_over.update(dict.fromkeys((one.location, other.location) for one, other in second.seen))
         if looked.behind:
             looked.places = [*looked.places, *looked.behind]
-            looked.conversion.write_page(looked.places)
-            looked.conversion.races += [(race_of(*race), race.accesses) for place in looked.behind
+            looked.write_page(looked.places)
+            looked.races += [(race_of(*race), race.accesses) for place in looked.behind
                                         for race in place.variables.values()]
             new, _ = self.add_new(looked, looked.behind, True)
             looked.new = [*looked.new, *new]
             self.keep_files(looked)
 
     def show(self, looked):
-        process, conversion, unknown = looked.process, looked.conversion, self.places.unknown_of(looked.new)
+        process, unknown = looked.process, self.places.unknown_of(looked.new)
         if unknown:
             self.show_places(looked, unknown)
         self.note_cuts(looked)
@@ -214,8 +203,8 @@ class Look:
         if unknown if self.options.live else looked.events:
             places = (counted(len(unknown), "new place") if self.options.live
                       else counted(len(looked.places), "place"))
-            say(f"{process.name} ({process.command}): {conversion.size}; {places} with races")
-        for note in conversion.notes:
+            say(f"{process.name} ({process.command}): {looked.size}; {places} with races")
+        for note in looked.notes:
             if (looked.events or note != KILLED) and note not in self.said:
                 self.said.update([note] if self.options.live else [])
                 is_full = "SHB_RECORDS is reached" in note
@@ -225,7 +214,7 @@ class Look:
     def note_cuts(self, looked):
         """Takes what makes a record a part of its run. A thread too many doesn't, nor that a program of one
         thread was killed."""
-        cuts = [cut for cut in looked.conversion.cuts if "a thread too many" not in cut
+        cuts = [cut for cut in looked.cuts if "a thread too many" not in cut
                 and (looked.events or cut != KILLED)]
         self.is_cut |= bool(cuts) and cuts != [KILLED]
         self.is_killed |= cuts == [KILLED]
@@ -244,13 +233,13 @@ class Look:
 
     def show_places(self, looked, unknown):
         """The page and text of new unknown places, and what the view found; if it fails, the places alone."""
-        process, conversion, numbers = looked.process, looked.conversion, looked.conversion.numbers
+        process, numbers = looked.process, looked.numbers
         is_on_page = [any(one.place.variables[name].events in numbers
                           for name in one.variables & one.place.variables.keys()) for one in unknown]
         show_apart([one for one, is_there in zip(unknown, is_on_page) if not is_there])
         if not any(is_on_page):
             return
-        first = [note for note in conversion.notes if note.startswith(CRASHED)] + conversion.cuts
+        first = [note for note in looked.notes if note.startswith(CRASHED)] + looked.cuts
         notes = [f"{note[0].upper()}{note[1:]}." for note in [*first, process.replay] if note]
         has_turns = process.record.with_suffix(".turns").exists()
         turns = self.results.folder / f"{process.base}.turns" if has_turns else ""
@@ -261,7 +250,7 @@ class Look:
         from shb_view.view import Asked, RecordedRun
         from shb_view.words import bad_words
         run = RecordedRun(
-            conversion.trace, conversion.counts, conversion.races, conversion.used, conversion.called,
+            looked.trace, looked.counts, looked.races, looked.used, looked.called,
             new=variables_at(unknown),
             behind=variables_at(one for one in unknown if one.place in looked.behind),
             about=list(self.meaning()), unseen=self.modules.calls(process.modules), turns=turns,
@@ -275,8 +264,8 @@ class Look:
         if view.verdict.is_good is False:
             self.fail(Contradiction(f"{process.name}: {bad_words(view)}"))
         self.pages.append(page)
-        self.found[process.name, conversion.trace] = found = document(view)
-        self.sources[process.name, conversion.trace] = conversion.called.sources
+        self.found[process.name, looked.trace] = found = document(view)
+        self.sources[process.name, looked.trace] = looked.called.sources
         self.notes.update(dict.fromkeys(note for note in found["notes"] if note not in notes))
 
 
