@@ -4,10 +4,8 @@ import array
 import bisect
 import collections
 import functools
-import itertools
 import os
 import re
-import sys
 
 from shb_common.files import open_regular
 from shb_common.locations import line_of, parts_of
@@ -20,7 +18,8 @@ BLOCK = re.compile(rb".*#([0-9]{1,18})(?:\+[0-9]+)?", re.S)  # a variable in a b
 QUALIFIERS = re.compile(rb"(?: const| volatile)+$")
 ORDERS = b"relaxed", b"acquire", b"release", b"both"
 USES = b"load", b"store", b"update", b"fence"
-FRAMES = b"frame", b"system-frame"
+NUMBERED = b"stack", b"block", b"free"
+NAMED = b"frame", b"system-frame", b"thread", b"source", b"line", b"local", b"use"
 OTHER = "doesn't have the stacks of this trace"
 MOST_DEEP = 200  # calls of a stack that are looked at
 MOST_FRAMES = 2_000  # of these calls, of which inlined code has several each
@@ -83,23 +82,51 @@ class Stacks:
 
     def read(self, file, count):
         """Takes the lines of an open file with so many events."""
-        tables = {b"source": self.sources, b"line": self.sums, b"thread": self.threads, b"block": self.blocks}
-        for kind, fields in entries_in(file, count):
-            if kind in tables:
-                tables[kind][fields[0]] = fields[1]
-            elif kind in FRAMES:
-                self.take_frame(*fields, kind == FRAMES[1])
-            elif kind == b"stack":
-                self.calls[fields[0]] = fields[1], tuple(self.frames[frame] for frame in fields[2:])
-            elif kind == b"local":
-                self.locals.setdefault(fields[1], []).append((fields[0], fields[2]))
-            elif kind == b"free":
-                self.free_starts.append(fields[0])
-                self.free_ends.append(fields[1])
-            else:
-                self.uses.append(AtomicUse(*fields[:4], *fields[4]))
+        file.seek(BEGIN_BYTES + NUMBER_BYTES * count)
+        for number, line in enumerate(iter(lambda: file.readline(MOST_LINE), b""), 2):
+            kind, _, rest = line.rstrip(b"\n").partition(b" ")
+            try:
+                if not line.endswith(b"\n"):
+                    raise ValueError
+                if kind in NUMBERED:
+                    self.take_numbers(kind, *map(whole, rest.split()))
+                elif kind in NAMED:
+                    self.take(kind, *rest.split(b"\t"))
+            except (ValueError, TypeError, IndexError):
+                raise BadStacks(f"is damaged in line {number}: `{printable(line[:80].rstrip())}`") from None
         for names in self.locals.values():
             names.sort(key=lambda it: it[0])  # of several at one event the last one holds
+
+    def take_numbers(self, kind, first, second, *frames):
+        """Takes a stack, its caller's and its frames; a block and its stack; or the first and last event of a
+        free."""
+        if not all(frames) or frames and kind != b"stack":
+            raise ValueError
+        if kind == b"stack":
+            self.calls[first] = second, tuple(self.frames[frame] for frame in frames)
+        elif kind == b"block":
+            self.blocks[first] = second
+        else:
+            self.free_starts.append(first)
+            self.free_ends.append(second)
+
+    def take(self, kind, first, second, *more):
+        """Takes a line of another kind, whose fields have tabs between them."""
+        if kind == b"local":
+            [name] = more
+            self.locals.setdefault(second, []).append((whole(first), name))
+        elif kind == b"use":
+            self.uses.append(AtomicUse(whole(first), second, *more[:2], *use_of(*more[2:])))
+        elif more:
+            raise ValueError
+        elif kind == b"thread":
+            self.threads[first] = whole(second)
+        elif kind == b"source":
+            self.sources[first] = second
+        elif kind == b"line":
+            self.sums[first] = sum_of(second)
+        else:
+            self.take_frame(first, second, kind == b"system-frame")
 
     def take_frame(self, function, location, in_system):
         self.frames.append(Frame(function, location, in_system))
@@ -156,36 +183,6 @@ def events_in(file):
     return int(begin[1])
 
 
-def entries_in(file, count):
-    """The lines of an open file of stacks of so many events: kind and fields. Other kinds are skipped."""
-    file.seek(BEGIN_BYTES + NUMBER_BYTES * count)
-    frames = 0
-    for number, line in enumerate(iter(lambda: file.readline(MOST_LINE), b""), 2):
-        kind, _, rest = line.rstrip(b"\n").partition(b" ")
-        try:
-            if not line.endswith(b"\n"):
-                raise ValueError
-            fields = fields_of(kind, rest)
-            if kind == b"stack" and not all(0 < frame <= frames for frame in fields[2:]):
-                raise ValueError
-        except ValueError:
-            raise BadStacks(f"is damaged in line {number}: `{printable(line[:80].rstrip())}`") from None
-        frames += kind in FRAMES
-        if fields is not None:
-            yield kind, fields
-
-
-def fields_of(kind, rest):
-    """The fields of a line, read; None where its kind isn't known."""
-    if kind not in FORMS:
-        return None
-    between, *forms = FORMS[kind]
-    fields = rest.split(between)
-    if len(fields) != len(forms) and (kind != b"stack" or len(fields) < len(forms)):
-        raise ValueError
-    return [read(field) for read, field in itertools.zip_longest(forms, fields, fillvalue=whole)]
-
-
 def whole(text):
     if not text.isdigit() or len(text) > MOST_DIGITS:
         raise ValueError
@@ -206,22 +203,10 @@ def use_of(text):
     return use, order, bool(again)
 
 
-# What is between the fields of each kind of line (None: blanks), and what reads each. A stack has its frames.
-FORMS = {b"frame": (b"\t", bytes, bytes), b"system-frame": (b"\t", bytes, bytes),
-         b"thread": (b"\t", bytes, whole), b"source": (b"\t", bytes, bytes),
-         b"line": (b"\t", bytes, sum_of), b"local": (b"\t", whole, bytes, bytes),
-         b"stack": (None, whole, whole), b"block": (None, whole, whole), b"free": (None, whole, whole),
-         b"use": (b"\t", whole, bytes, bytes, bytes, use_of)}
-
-
 def numbers_of(file, count):
-    """Numbers of 4 bytes, the least byte first."""
-    found = array.array("I")
+    """Numbers of 4 bytes, as an x86-64 has them."""
     read = file.read(NUMBER_BYTES * count)
-    found.frombytes(read[:len(read) // NUMBER_BYTES * NUMBER_BYTES])
-    if sys.byteorder == "big":
-        found.byteswap()
-    return found
+    return array.array("I", read[:len(read) // NUMBER_BYTES * NUMBER_BYTES])
 
 
 @functools.lru_cache(maxsize=1024)
