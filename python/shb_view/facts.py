@@ -103,6 +103,9 @@ class Site:
 
 def add_to(sums, others, names):
     """Adds further sums; `names` has what has another name here."""
+    if not sums and names.keys().isdisjoint(others):
+        sums.update(others)  # all at once
+        return
     for key, count in others.items():
         sums[names.get(key, key)] += count
 
