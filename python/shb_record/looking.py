@@ -100,9 +100,8 @@ class Look:
         else:
             found = [(place, place.variables) for place in looked.places]
             self.unshown += len(found)
-        if found and not self.stops.first:  # else they were said before
-            say(f"{looked.process.name}: {counted(len(found), 'place')} with races that can't be shown:")
-            say_places(found)
+        if not self.stops.first:  # else they were said before
+            say_places(found, f"{looked.process.name}: ", "with races that can't be shown")
 
     def keep_failed(self, process):
         self.failed += 1
@@ -168,9 +167,8 @@ class Look:
             has_met = self.places.has_met(process, places)
             self.passed += has_met and bool(places)
             return [] if has_met else places
-        if self.stops.first and places:
-            say(f"{process.name}: {counted(len(places), 'place')} with races:")
-            say_places((place, place.variables) for place in places)
+        if self.stops.first:
+            say_places([(place, place.variables) for place in places], f"{process.name}: ", "with races")
         return places
 
     def look_again(self, looked):
@@ -236,7 +234,8 @@ class Look:
         process, numbers = looked.process, looked.numbers
         is_on_page = [any(one.place.variables[name].events in numbers
                           for name in one.variables & one.place.variables.keys()) for one in unknown]
-        show_apart([one for one, is_there in zip(unknown, is_on_page) if not is_there])
+        say_places([(one.place, one.variables) for one, is_there in zip(unknown, is_on_page) if not is_there],
+                   "", "of the run without a page, since their accesses don't fit")
         if not any(is_on_page):
             return
         first = [note for note in looked.notes if note.startswith(CRASHED)] + looked.cuts
@@ -259,7 +258,7 @@ class Look:
         asked = Asked(ANALYSER, True, self.options.source, True, title, notes)
         _, view = explain(show_run, run, asked, page, sys.stderr)
         if not view:
-            say_places((one.place, one.variables) for one in unknown)
+            say_places([(one.place, one.variables) for one in unknown])
             return
         if view.verdict.is_good is False:
             self.fail(Contradiction(f"{process.name}: {bad_words(view)}"))
@@ -269,14 +268,10 @@ class Look:
         self.notes.update(dict.fromkeys(note for note in found["notes"] if note not in notes))
 
 
-def show_apart(unknown):
-    if unknown:
-        say(f"{counted(len(unknown), 'place')} of the run without a page, since their accesses don't fit:")
-    say_places((new.place, new.variables) for new in unknown)
-
-
-def say_places(found):
-    """Says of places and some of their variables a race each."""
+def say_places(found, whose="", what=""):
+    """Says how many places these are, and of each and some of its variables a race."""
+    if found and what:
+        say(f"{whose}{counted(len(found), 'place')} {what}:")
     for place, names in found:
         for name in sorted(place.variables.keys() & names):
             first, second = (f"{printable(access.location)} {KINDS[access.word]} by "

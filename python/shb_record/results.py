@@ -98,7 +98,9 @@ def unused_folder(folder):
         path = folder if number == 1 else folder.with_name(f"{folder.name}-{number}")
         path.mkdir(parents=True, exist_ok=True)
         look_at_owner(path)
-        file = open(path / LIST, "a+", encoding="utf-8", errors="surrogateescape", opener=opened_here)
+        # not through a link, which may lead anywhere: somebody else may have prepared the folder
+        file = open(path / LIST, "a+", encoding="utf-8", errors="surrogateescape",
+                    opener=lambda path, flags: os.open(path, flags | os.O_NOFOLLOW, 0o666))
         try:
             fcntl.flock(file, fcntl.LOCK_EX | fcntl.LOCK_NB)
         except BlockingIOError:
@@ -107,11 +109,6 @@ def unused_folder(folder):
         if number > 1:
             say(f"another call uses {folder}; the results go to {path}")
         return path, file
-
-
-def opened_here(path, flags):
-    """Not through a link, which may lead anywhere: the folder may be one that somebody else has prepared."""
-    return os.open(path, flags | os.O_NOFOLLOW, 0o666)
 
 
 def look_at_owner(folder):
