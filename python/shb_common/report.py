@@ -66,13 +66,16 @@ class Lines:
         self.take(len(found) == text.count(b"%d") and self.line == text % (*found,), form)
         return found
 
-    def numbered(self, text, form, number):
-        """The numbers of the next line but for its first, which is this one."""
-        found = self.numbers(text, form)
-        if found[0] != number:
-            raise BadReport(f"line {self.number} of the report has the number {found[0]}; it should be "
-                            f"`{form}`")
-        return found[1:]
+    def numbered(self, text, number, form):
+        """The numbers of the next line behind this one. These lines may be very many."""
+        words = self.line.split()[2:]
+        found = [int(word) for word in words if word.isdigit()]
+        if len(found) == text.count(b"%d") - 1 and self.line == text % (number, *found):
+            self.take(True, form)
+            return found
+        form = form.format(number)
+        first, *_ = self.numbers(text, form)
+        raise BadReport(f"line {self.number} of the report has the number {first}; it should be `{form}`")
 
     def location(self, word, form):
         """What follows a word in the next line."""
@@ -83,19 +86,19 @@ class Lines:
 
     def place(self, number):
         """How many races the place with this number has, and its two locations."""
-        [races] = self.numbered(b"place %d: %d\n", f"place {number}: C", number)
+        [races] = self.numbered(b"place %d: %d\n", number, "place {}: C")
         return races, self.location(b"at ", "at LOCATION"), self.location(b"and ", "and LOCATION")
 
-    def accesses(self, what, first, second, events):
-        """The lines of two accesses that conflict, each with its fields. They are of these events of so many;
-        `what` has them."""
+    def accesses(self, number, first, second, events):
+        """The lines of two accesses that conflict, each with its fields: those of the race with this number,
+        of these events of so many."""
         first_line, one = self.access(b"first ", "first ACCESS")
         second_line, other = self.access(b"second ", "second ACCESS")
         if not 0 < first < second <= events:
-            raise BadReport(f"{what} of the report: {first} and {second} aren't two events of the trace, the "
-                            "earlier first")
+            raise BadReport(f"race {number} of the report: {first} and {second} aren't two events of the "
+                            "trace, the earlier first")
         if one.name != other.name or one.thread == other.thread or b"w" not in (one.word, other.word):
-            raise BadReport(f"{what} of the report: the events {first} and {second} don't conflict")
+            raise BadReport(f"race {number} of the report: the events {first} and {second} don't conflict")
         return (first_line, one), (second_line, other)
 
     def access(self, word, form):
@@ -178,8 +181,8 @@ class Report:
             raise BadReport("the places that the report begins with aren't those of its races")
 
     def read_race(self, number):
-        first, second = self.lines.numbered(b"race %d: %d %d\n", f"race {number}: I J", number)
-        accesses = self.lines.accesses(f"race {number}", first, second, self.counts.events)
+        first, second = self.lines.numbered(b"race %d: %d %d\n", number, "race {}: I J")
+        accesses = self.lines.accesses(number, first, second, self.counts.events)
         (first_line, one), (second_line, other) = accesses
         if number == 1:
             self.has_schedules = self.lines.line.startswith(b"schedule ")
