@@ -20,7 +20,7 @@
 #include <fcntl.h>
 #include <sys/stat.h>
 
-#define TURNS_MAGIC ANY_TURNS "3\n"     /* another number where steps are counted otherwise */
+#define TURNS_MAGIC ANY_TURNS "4\n"     /* another number where steps are counted otherwise */
 enum { HEADER = 4096, STEP_BYTES = 1 << 20, MOST_BYTES = 128 << 20, FEW = 1 << 15 };
 
 #define UNUSUAL (1ull << 47)
