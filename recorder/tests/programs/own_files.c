@@ -3,6 +3,7 @@
 #define _GNU_SOURCE
 #include <fcntl.h>
 #include <pthread.h>
+#include <stdatomic.h>
 #include <stdio.h>
 #include <stdlib.h>
 #include <string.h>
@@ -11,10 +12,13 @@
 
 enum { NUMBERS = 1100, BYTES = 1 << 20 };
 static int count, kept[2];
+static atomic_int begun;               /* it orders nothing */
 static char block[BYTES];
 
 static void *work(void *own) {
     count++;                                                 /* RACE */
+    atomic_fetch_add_explicit(&begun, 1, memory_order_relaxed);
+    while (atomic_load_explicit(&begun, memory_order_relaxed) < 2) ;
     for (volatile int *n = own; *n < 60000; ) ++*n;          /* the record takes more than its first steps */
     return 0;
 }
