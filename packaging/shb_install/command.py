@@ -4,12 +4,13 @@ import argparse
 import hashlib
 import os
 import pathlib
+import shutil
 import subprocess
 import sys
 import tempfile
 
 from shb_common.files import put
-from shb_common.standard import words_of
+from shb_common.standard import tell, words_of
 from shb_common.words import Refused
 from shb_install import machine, package, placing, sources, tree
 
@@ -51,8 +52,11 @@ def install(options):
     name, _, seconds = sources.version()
     with tempfile.TemporaryDirectory() as room:
         made = pathlib.Path(room)
-        tree.make(made, options.shb, prefix, f"{prefix}/lib/shb/libtsan.so", sources.listed(), name,
-                  sources.day(seconds))
+        tree.make(made, options.shb, f"{prefix}/lib/shb/libtsan.so", sources.listed(), name)
+        if shutil.which("help2man"):
+            tree.put_manual(made, prefix, name, seconds)
+        else:
+            tell("install: help2man isn't installed, so there are no manual pages")
         placing.install(made, place)
     if not options.destdir:     # else whoever makes a package of it does that
         placing.compile_modules(place)
@@ -72,9 +76,11 @@ def packaged(options, made, prefix, library, strip=lambda made: None):
     if changed:
         raise Refused("a package is made of a commit, and these files are changed since: "
                       f"{', '.join(changed)}")
+    package.need("help2man")
     machine.check(options.shb)
     name, commit, seconds = sources.version()
-    tree.make(made, options.shb, prefix, library, files, name, sources.day(seconds))
+    tree.make(made, options.shb, library, files, name)
+    tree.put_manual(made, prefix, name, seconds)
     strip(made)
     (made / "share/doc/shb/PROVED.md").write_text(
         package.proved_text(made, options.shb, name, commit, seconds))
@@ -93,7 +99,7 @@ def dist(options):
 
 
 def deb(options):
-    package.need_dpkg()
+    package.need("dpkg-deb")
     with tempfile.TemporaryDirectory() as room:
         made = pathlib.Path(room, "tree", "usr")
         made.mkdir(parents=True)

@@ -113,9 +113,9 @@ def archive(tree, top, seconds):
     return packed.getvalue()
 
 
-def need_dpkg():
-    if not shutil.which("dpkg-deb"):
-        raise Refused("dpkg-deb isn't installed; it makes packages of Debian")
+def need(program):
+    if not shutil.which(program):
+        raise Refused(f"{program} isn't installed; no package can be made without it")
 
 
 def debian(made, version, author, seconds):

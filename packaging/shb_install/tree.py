@@ -2,12 +2,12 @@
 
 import os
 import pathlib
+import re
 import shutil
 import subprocess
 import tempfile
 
 from shb_common.words import Refused
-from shb_install import completions, helptext, manual
 from shb_install.sources import TOP
 
 # where commands (shb-NAME) and packages (shb_NAME) are, and what the recorder is built of
@@ -17,22 +17,33 @@ HOME = "lib/shb"
 DOCUMENTS = ("README.md", "CHANGELOG.md", "SECURITY.md", "CITATION.cff", "recorder/README.md")
 DOCUMENT_FOLDERS = ("docs/", "examples/")
 OF_THE_CHECKOUT = ("docs/GATE.md", "docs/PROOF-NOTES.md")   # they are about files that aren't installed
-PLACES = ("bin", HOME, "share/doc/shb", "share/man/man1", "share/bash-completion/completions",
-          "share/zsh/site-functions", "share/fish/vendor_completions.d")
-COMPLETIONS = ((completions.bash, "share/bash-completion/completions/{}"),
-               (completions.zsh, "share/zsh/site-functions/_{}"),
-               (completions.fish, "share/fish/vendor_completions.d/{}.fish"))
+BASH, ZSH, MANUAL = "share/bash-completion/completions", "share/zsh/site-functions", "share/man/man1"
+# the commands with a page, and what it says of each under NAME
+PAGES = {
+    "shb": "finds the data races of a trace",
+    "shb races": "lists all races of a trace",
+    "shb places": "lists one race of each place of a trace",
+    "shb check": "checks a report against its trace",
+    "shb-farm": "analyses many traces",
+    "shb-fix": "repairs a trace of another tool",
+    "shb-record": "records a program, and explains its data races",
+    "shb-std": "turns a record of a program into a trace",
+    "shb-view": "explains the races of a trace",
+}
+SEE_ALSO = "[SEE ALSO]\n" + ",\n".join(".BR " + re.sub("[ -]", r"\\-", name) + " (1)" for name in PAGES)
+EXAMPLE = '.SS "Example:"\n.IP\n'    # where a page has a command with what it writes, as its last part
 # as in its Makefile without -g, which names folders
 RECORDER_FLAGS = "-O2 -Wall -Wextra -Wno-unused-parameter"
 
 
-def make(tree, shb, prefix, library, files, version, date):
-    """Makes the whole tree in an empty folder. `shb` is the built program, `prefix` what texts call the
-    folder, `library` the path under which programs that were linked with the recorder's library look for it,
-    `files` those of the checkout that may go in."""
-    for folder in PLACES:
-        (tree / folder).mkdir(parents=True)
+def make(tree, shb, library, files, version):
+    """Makes the tree without manual pages in an empty folder. `shb` is the built program, `library` the path
+    under which programs that were linked with the recorder's library look for it, `files` those of the
+    checkout that may go in."""
     copy(shb, tree / "bin" / "shb")
+    copy(TOP / "packaging/completion.bash", tree / BASH / "shb")
+    copy(TOP / "packaging/completion.zsh", tree / ZSH / "_shb")
+    (tree / HOME).mkdir(parents=True)
     (tree / HOME / "VERSION").write_text(version + "\n")
     with tempfile.TemporaryDirectory() as room:
         parts = pathlib.Path(room)
@@ -45,9 +56,6 @@ def make(tree, shb, prefix, library, files, version, date):
     for name in files:
         if name in DOCUMENTS or name.startswith(DOCUMENT_FOLDERS) and name not in OF_THE_CHECKOUT:
             copy(TOP / name, tree / "share/doc/shb" / name)
-    helps = helps_of(tree, prefix)
-    put_manual(tree, helps, version, date)
-    put_completions(tree, helps)
 
 
 def build_recorder(folder, library, version):
@@ -65,50 +73,33 @@ def copy(source, place):
 
 
 def put_commands(folder, tree):
-    """Puts the commands of a folder, their packages and the library together, with links in bin."""
+    """Puts the commands of a folder, their packages and the library together, with links in bin, and to the
+    completion in bash, which is one for all."""
     home = tree / HOME
     for source in sorted(folder.glob("shb-*")):
         copy(source, home / source.name)
         (tree / "bin" / source.name).symlink_to(os.path.relpath(home / source.name, tree / "bin"))
+        (tree / BASH / source.name).symlink_to("shb")
     for package in sorted(folder.glob("shb_*")):
         shutil.copytree(package, home / package.name)
     for source in sorted([*(folder / "lib").glob("libtsan*"), *folder.glob("module-reader")]):
         copy(source, home / source.name)
 
 
-def helps_of(tree, prefix):
-    helps = {}
-    for command in sorted(path.name for path in (tree / "bin").iterdir()):
-        helps.update(read_help(tree, prefix, [command]))
-        for sub in helps[command].commands:
-            helps.update(read_help(tree, prefix, [command, sub]))
-    return helps
+def put_manual(tree, prefix, version, seconds):
+    """Has help2man make the page of each command from its help, which names the tree's folder."""
+    (tree / MANUAL).mkdir(parents=True)
+    environment = {"PATH": f"{tree}/bin:{os.environ.get('PATH', os.defpath)}", "LC_ALL": "C.UTF-8",
+                   "COLUMNS": "80", "PYTHONDONTWRITEBYTECODE": "1", "SOURCE_DATE_EPOCH": str(seconds)}
+    for command, gist in PAGES.items():
+        name = command.replace(" ", "-")
+        words = ["help2man", "--no-info", f"--name={gist}", f"--version-string={name} {version}",
+                 "--include=/dev/stdin", command]
+        text = subprocess.run(words, env=environment, input=SEE_ALSO.encode(), stdout=subprocess.PIPE,
+                              check=True).stdout.decode()
+        text = text.replace(in_roff(os.path.realpath(tree)), in_roff(prefix))
+        (tree / MANUAL / f"{name}.1").write_text(text.replace(EXAMPLE, f"{EXAMPLE}.nf\n"))
 
 
-def read_help(tree, prefix, words):
-    """The help of a command, by its words. It refuses where a command can't be run on this machine."""
-    environment = {"PATH": os.environ.get("PATH", os.defpath), "COLUMNS": "80", "LC_ALL": "C.UTF-8",
-                   "PYTHONDONTWRITEBYTECODE": "1"}
-    ran = subprocess.run([tree / "bin" / words[0], *words[1:], "--help"], env=environment,
-                         stdin=subprocess.DEVNULL, capture_output=True)
-    if ran.returncode:
-        said = ran.stderr.decode(errors="replace").strip()
-        raise Refused(
-            f"`{' '.join(words)} --help` ended with status {ran.returncode} on this machine: {said}")
-    text = ran.stdout.decode().replace(str(tree), prefix)
-    return {" ".join(words): helptext.parse(" ".join(words), text)}
-
-
-def put_manual(tree, helps, version, date):
-    pages = [manual.name_of(words) for words in helps]
-    for words, help_ in helps.items():
-        name = manual.name_of(words)
-        text = manual.page(help_, version, date, [page for page in pages if page != name])
-        (tree / "share/man/man1" / f"{name}.1").write_text(text)
-
-
-def put_completions(tree, helps):
-    for words, help_ in helps.items():
-        for make_text, place in COMPLETIONS if " " not in words else ():
-            (tree / place.format(words)).write_text(make_text(help_, helps))
-
+def in_roff(path):
+    return path.replace("-", r"\-")

@@ -14,16 +14,14 @@ COMMANDS = ("shb", "shb-farm", "shb-fix", "shb-record", "shb-std", "shb-view")
 WANTED = ([f"bin/{name}" for name in COMMANDS]
           + [f"share/man/man1/{name}.1" for name in (*COMMANDS, "shb-races", "shb-places", "shb-check")]
           + [f"share/bash-completion/completions/{name}" for name in COMMANDS]
-          + [f"share/zsh/site-functions/_{name}" for name in COMMANDS]
-          + [f"share/fish/vendor_completions.d/{name}.fish" for name in COMMANDS]
-          + ["lib/shb/libtsan.so", "lib/shb/libtsan.so.0", "lib/shb/libtsan.so.2",
+          + ["share/zsh/site-functions/_shb",
+             "lib/shb/libtsan.so", "lib/shb/libtsan.so.0", "lib/shb/libtsan.so.2",
              "lib/shb/libtsan_preinit.o", "lib/shb/shb_farm/job.py",
              "lib/shb/shb_view/page.css", "lib/shb/VERSION", "share/doc/shb/README.md",
              "share/doc/shb/docs/GUARANTEES.md",
              "share/doc/shb/examples/fork-join.std"])
 SHARED = ("bin/shb", "share/man/man1/shb", "share/bash-completion/completions/shb",
-          "share/zsh/site-functions/_shb",
-          "share/fish/vendor_completions.d/shb")
+          "share/zsh/site-functions/_shb")
 OWN = ("lib/shb/", "share/doc/shb/")
 # where a command can do nothing
 STATUSES = {"shb-farm": 4, "shb-fix": 4, "shb-record": 125, "shb-view": 2}

@@ -1,280 +1,151 @@
-"""The parts of a help text, the manual pages and the completions made from them."""
+"""The manual pages and completions of an installation: each command has both, and they are of use."""
 
 import os
 import re
 import shutil
+import sys
 
 import installing
-from installing import call
-from shb_install import completions, helptext, manual
-from shb_install.helptext import Option
+from installing import TOP, call
+from shb_install.tree import BASH, MANUAL, PAGES, ZSH
 
-CLAP = """\
-Finds x. More of it
-
-Usage: shb races [OPTIONS] [TRACE]
-
-Arguments:
-  [TRACE]  The file
-
-Options:
-      --workers <N>  How many, 1 to 64
-      --list         Leave them out: yes
-  -h, --help         Print help
-
-The trace:
-  One event a line:
-    r(X)   reads
-
-Exit status: 0
-done
-"""
-ARGPARSE = """\
-usage: shb-x [-h] [--known FILE] [--engine {a,b}]
-             [-o DIR] TRACES
-
-Analyses all traces in a folder and joins them:
-a row each.
-
-positional arguments:
-  TRACES                the folder
-
-options:
-  -h, --help            show this help message and exit
-  --known FILE          places to pass over, in a file
-                        of two columns
-  --engine {a,b}        which
-  --a-very-long-option-with-a-value VALUE
-                        its text
-  -o DIR, --out DIR     the folder
-
-Files:
-  one.tsv  a table
-"""
-C_TEXT = """\
-Turns a record into a trace.
-
-Usage: shb-std [-a] [-n EVENTS] RECORD
-
-Options:
-  -a         write everything
-  -n EVENTS  at most so many
-"""
-COMMANDS = ("Finds x\n\nUsage: shb <COMMAND>\n\nCommands:\n  races  Writes 'it': [all]\n  help   "
-            "Print\n\nOptions:\n  -h, --help  Print help\n")
-
-
-WITHOUT_HEADINGS = """\
-usage: shb-r [OPTION].. PROGRAM [ARGUMENT]..
-
-Runs a program.
-
-  -o DIR     the folder
-             of results
-  --keep     keep it
-
-Exit status: 66 if there is a race;
-125 if not.
+FISH = "/usr/share/fish/tools/create_manpage_completions.py"
+WITHOUT_HELP2MAN = """\
+import shutil, sys
+sys.path[:0] = sys.argv[1:3]
+which = shutil.which
+shutil.which = lambda program: None if program == "help2man" else which(program)
+from shb_install.command import main
+sys.exit(main(sys.argv[3:]))
 """
 
 
-class Parts(installing.Case):
-    def test_options_without_a_heading(self):
-        found = helptext.parse("shb-r", WITHOUT_HEADINGS)
-        self.assertEqual((found.about, found.usage),
-                         ("runs a program", "shb-r [OPTION].. PROGRAM [ARGUMENT].."))
-        self.assertEqual(found.options, [Option(["-o"], "DIR", "the folder of results"),
-                                         Option(["--keep"], "", "keep it")])
-
-    def test_clap(self):
-        found = helptext.parse("shb races", CLAP)
-        self.assertEqual((found.about, found.usage), ("finds x", "shb races [OPTIONS] [TRACE]"))
-        self.assertEqual(found.options, [Option(["--workers"], "N", "How many, 1 to 64"),
-                                         Option(["--list"], "", "Leave them out: yes"),
-                                         Option(["-h", "--help"], "", "Print help")])
-        self.assertEqual(found.parts[3:], [("The trace", ["  One event a line:", "    r(X)   reads"]),
-                                           ("", ["Exit status: 0", "done"])])
-
-    def test_argparse(self):
-        found = helptext.parse("shb-x", ARGPARSE)
-        self.assertEqual(found.about, "analyses all traces in a folder and joins them")
-        self.assertEqual(found.usage, "shb-x [-h] [--known FILE] [--engine {a,b}] [-o DIR] TRACES")
-        self.assertEqual(found.options, [
-            Option(["-h", "--help"], "", "show this help message and exit"),
-            Option(["--known"], "FILE", "places to pass over, in a file of two columns"),
-            Option(["--engine"], "{a,b}", "which"),
-            Option(["--a-very-long-option-with-a-value"], "VALUE", "its text"),
-            Option(["-o", "--out"], "DIR", "the folder")])
-        self.assertEqual(found.parts[-1], ("Files", ["  one.tsv  a table"]))
-
-    def test_newer_argparse(self):
-        found = helptext.parse("x", ARGPARSE.replace("-o DIR, --out DIR ", "-o, --out DIR     "))
-        self.assertEqual(found.options[-1], Option(["-o", "--out"], "DIR", "the folder"))
-
-    def test_c(self):
-        found = helptext.parse("shb-std", C_TEXT)
-        self.assertEqual(found.about, "turns a record into a trace")
-        self.assertEqual(found.options, [Option(["-a"], "", "write everything"),
-                                         Option(["-n"], "EVENTS", "at most so many")])
-
-    def test_the_exit_status_has_a_section(self):
-        for text, lines in ((WITHOUT_HEADINGS, "66 if there is a race; 125 if not."), (CLAP, "0 done")):
-            page = manual.page(helptext.parse("shb-r", text), "1", "today", [])
-            self.assertIn(f".SH EXIT STATUS\n{lines}\n", page.replace(".nf\n", "").replace(".fi\n", ""))
-            self.assertNotIn("Exit status:", page)
-
-    def test_paragraphs_fill_the_page(self):
-        """But those with lines that stand further to the right, as examples do. Where the help ends a line
-        makes no difference."""
-        page = manual.page(helptext.parse("x", "Does it.\n\nOne line\nand more.\n\nLike so\n  $ x\n\nUsage: "
-                                               "x\n"), "1", "today", [])
-        self.assertIn("\n.PP\nOne line and more.\n.PP\n.nf\n.in 2n\nLike so\n  $ x\n.in\n.fi\n", page)
-
-    def test_commands(self):
-        self.assertEqual(helptext.parse("shb", COMMANDS).commands, {"races": "Writes 'it': [all]"})
-
-    def test_signs_that_roff_reads_as_commands(self):
-        self.assertEqual(manual.roff(".x"), r"\&.x")
-        self.assertEqual(manual.roff(r"a\n -'`^~\"".replace('\\"', '"')), r"a\en \-\(aq\(ga\(ha\(ti\(dq")
+def options_of(help_):
+    """The long options that a help lists."""
+    return set(re.findall(r"^ {2,6}(?:-\w(?: \w+)?, )?(--[a-z-]+)", help_, re.M))
 
 
-class Pages(installing.Case):
+class Installed(installing.Case):
     def setUp(self):
         super().setUp()
+        self.need("help2man")
         self.prefix = installing.installed()
 
-    def helps(self):
-        """The words of each page's command, with its help."""
-        for page in sorted((self.prefix / "share/man/man1").iterdir()):
-            command = page.stem if (self.prefix / "bin" / page.stem).exists() else "shb"
-            words = [command] if page.stem == command else [command, page.stem[len("shb-"):]]
-            environment = {"PATH": os.environ["PATH"], "COLUMNS": "80"}
-            yield words, call(self.prefix / "bin" / words[0], *words[1:], "--help", env=environment)
+    def help(self, command):
+        name, *more = command.split()
+        return call(self.prefix / "bin" / name, *more, "--help", env={"PATH": os.environ["PATH"]})
 
-    def test_a_page_says_all_that_the_help_says(self):
+
+class Pages(Installed):
+    def test_each_command_has_a_page(self):
+        """With all that its help says, without a warning and in 80 columns, but for the line of a path."""
         self.need("man")
-        for words, text in self.helps():
-            page = self.prefix / "share/man/man1" / ("-".join(words) + ".1")
-            environment = {**os.environ, "MANWIDTH": "200", "LC_ALL": "C.UTF-8", "MANROFFOPT": "-c"}
-            shown = call("man", "--warnings=w", "-P", "cat", "-l", page, env=environment)
-            shown = re.sub(".\b", "", shown)
-            missing = [word for word in text.split()
-                       if word.strip("<>").rstrip(":").lower() not in shown.lower()]
-            # their headings are others
-            self.assertLessEqual(set(missing), {"Usage:", "usage:", "positional"}, words)
+        commands = {path.name for path in (self.prefix / "bin").iterdir()}
+        inner = re.findall(r"^  ([a-z]+) ", self.help("shb").partition("Commands:")[2], re.M)
+        self.assertEqual(set(PAGES), commands | {f"shb {name}" for name in inner if name != "help"})
+        for command in PAGES:
+            page, shown = self.prefix / MANUAL / f"{command.replace(' ', '-')}.1", {}
+            for width in "80", "500":
+                environment = {**os.environ, "MANWIDTH": width, "LC_ALL": "C.UTF-8", "MANROFFOPT": "-c"}
+                ran = installing.subprocess.run(["man", "--warnings=w", "-P", "cat", "-l", page],
+                                                env=environment, capture_output=True)
+                self.assertEqual((ran.returncode, ran.stderr), (0, b""), command)
+                shown[width] = re.sub(".\b", "", ran.stdout.decode())
+            self.assertEqual([line for line in shown["80"].splitlines() if len(line) > 80
+                              and str(self.prefix) not in line], [], command)
+            missing = [word for word in self.help(command).split() if word not in shown["500"]]
+            # these are headings of their own there
+            self.assertLessEqual(set(missing), {"Usage:", "Options:", "Environment:", "or:"}, command)
 
     def test_a_help_is_80_columns_wide(self):
-        """But the line of a path, which isn't cut."""
-        for words, text in self.helps():
-            self.assertEqual([line for line in text.splitlines() if len(line) > 80
-                              and str(self.prefix) not in line], [], words)
-
-    def test_a_page_is_80_columns_wide(self):
-        self.need("man")
-        for page in (self.prefix / "share/man/man1").iterdir():
-            shown = call("man", "-P", "cat", "-l", page,
-                         env={**os.environ, "MANWIDTH": "80", "LC_ALL": "C.UTF-8", "MANROFFOPT": "-c"})
-            self.assertEqual([line for line in re.sub(".\b", "", shown).splitlines() if len(line) > 80], [],
-                             page)
-
-    def test_a_page_has_no_warning(self):
-        self.need("man")
-        for page in (self.prefix / "share/man/man1").iterdir():
-            ran = installing.subprocess.run(["man", "--warnings=w", "-P", "cat", "-l", page],
-                                            stdout=installing.subprocess.DEVNULL,
-                                            stderr=installing.subprocess.PIPE,
-                                            env={**os.environ, "LC_ALL": "C.UTF-8"})
-            self.assertEqual((ran.returncode, ran.stderr), (0, b""), page)
-
-    def test_no_break_is_empty_and_a_name_is_short(self):
-        for path in (installing.installed() / "share/man/man1").glob("*.1"):
-            text = path.read_text()
-            self.assertNotRegex(text, r"(?m)^\.PP\n(?:\.SH|\.PP|\Z)", path.name)
-            self.assertLess(len(re.search(r"^\.SH NAME\n(.*)$", text, re.M)[1].split()), 20, path.name)
+        for command in PAGES:
+            self.assertEqual([line for line in self.help(command).splitlines() if len(line) > 80
+                              and str(self.prefix) not in line], [], command)
 
     def test_its_name_is_found(self):
         self.need("lexgrog")
-        for page in (self.prefix / "share/man/man1").iterdir():
-            self.assertRegex(call("lexgrog", page), f': "{page.stem} - [a-z]')
+        for command, gist in PAGES.items():
+            name = command.replace(" ", "-")
+            self.assertIn(f': "{name} - {gist}"', call("lexgrog", self.prefix / MANUAL / f"{name}.1"))
 
-    def test_each_option_is_in_each_completion(self):
-        for words, text in self.helps():
-            options = helptext.parse(" ".join(words), text).options
-            names = {name for option in options for name in option.names}
-            self.assertLess(max(len(option.gist) for option in options), 150)
-            self.assertIn("--help", names)
-            for path, form in (("share/bash-completion/completions/{}",
-                                "{}"), ("share/zsh/site-functions/_{}", "{}["),
-                               ("share/fish/vendor_completions.d/{}.fish", None)):
-                content = (self.prefix / path.format(words[0])).read_text()
-                for name in names:
-                    fish = f" -l {name[2:]} " if name.startswith("--") else f" -s {name[1:]} "
-                    self.assertIn(form.format(name) if form else fish, content)
+    def without_help2man(self, top, *words):
+        ran = installing.subprocess.run([sys.executable, "-B", "-c", WITHOUT_HELP2MAN, top / "packaging",
+                                         top / "python", "--shb", installing.SHB, *words],
+                                        env=installing.environment(), capture_output=True)
+        return ran.returncode, ran.stderr.decode()
+
+    def test_without_help2man_there_are_no_pages(self):
+        prefix = self.folder / "prefix"
+        self.assertEqual(self.without_help2man(TOP, "--prefix", prefix, "install"),
+                         (0, "install: help2man isn't installed, so there are no manual pages\n"))
+        self.assertEqual(((prefix / MANUAL).exists(), (prefix / BASH / "shb").exists()), (False, True))
+
+    def test_without_help2man_there_is_no_package(self):
+        copy = installing.copy_of_repository(self.folder / "copy")
+        for what in "dist", "deb":
+            self.assertEqual(self.without_help2man(copy, what), (
+                1, "install: help2man isn't installed; no package can be made without it\n"))
 
 
-class Completions(installing.Case):
-    """Each shell is asked for what it offers after some words."""
+class Completions(Installed):
+    """Each shell is asked for what it offers after some words, with the commands on its PATH."""
 
     def setUp(self):
         super().setUp()
-        texts = {"shb": COMMANDS, "shb races": CLAP, "shb-x": ARGPARSE, "shb-r": WITHOUT_HEADINGS}
-        self.helps = {words: helptext.parse(words, text) for words, text in texts.items()}
         (self.folder / "in").mkdir()
         (self.folder / "in" / "app.std").touch()
+        self.environment = {**os.environ, "PATH": f"{self.prefix}/bin:{os.environ['PATH']}"}
 
     def bash(self, *words):
-        script = self.folder / "completion"
-        script.write_text(completions.bash(self.helps[words[0]], self.helps))
-        lines = ["set -u", f". {script}", "COMP_WORDS=(" + " ".join(f"'{word}'" for word in words) + ")",
-                 f"COMP_CWORD={len(words) - 1}",
-                 f"_{re.sub('[^a-z]', '_', words[0])}", 'printf "%s\\n" ${COMPREPLY[@]+"${COMPREPLY[@]}"}']
-        return set(call("bash", "-c", "\n".join(lines)).split())
-
-    def fish(self, *words):
-        script = self.folder / "completion.fish"
-        script.write_text(completions.fish(self.helps[words[0]], self.helps))
-        line = " ".join(words)
-        said = call("fish", "--no-config", "-c",
-                    f"cd {self.folder}/in; source {script}; complete -C '{line}'")
-        return {found.split("\t")[0] for found in said.splitlines()}
+        script = """\
+. /usr/share/bash-completion/bash_completion
+. "$1"; shift
+COMP_WORDS=("$@"); COMP_CWORD=$(($# - 1)); COMP_LINE="$*"; COMP_POINT=${#COMP_LINE}
+[[ $(complete -p "$1") =~ -F\ ([^ ]+) ]] && "${BASH_REMATCH[1]}" "$1" "${@: -1}"
+printf '%s\\n' "${COMPREPLY[@]}"
+"""
+        path = self.prefix / BASH / words[0]
+        return set(call("bash", "-c", script, "bash", path, *words, cwd=self.folder / "in",
+                        env=self.environment).split())
 
     def zsh(self, *words):
         """Types the words and a tab into a zsh on a terminal of its own, which notes the matches
         in a file."""
         room = self.folder / "zsh"
         shutil.rmtree(room, ignore_errors=True)
-        room.mkdir()
-        (room / f"_{words[0]}").write_text(completions.zsh(self.helps[words[0]], self.helps))
+        shutil.copytree(self.prefix / ZSH, room)
         (room / "first").write_text(ZSH_INNER)
         call("zsh", "-f", "-c", ZSH_OUTER, "zsh", " ".join(words),
-             env={**os.environ, "ROOM": str(room), "IN": str(self.folder / "in")})
+             env={**self.environment, "ROOM": str(room), "IN": str(self.folder / "in")})
         return set((room / "matches").read_text().split())
 
     def expect_all(self, ask):
-        self.assertTrue({"races", "help"} <= ask("shb", ""))
+        self.assertLessEqual({"races", "places", "check", "help"}, ask("shb", ""))
         self.assertEqual(ask("shb", "ra"), {"races"})
-        self.assertEqual(ask("shb", "races", "--wo"), {"--workers"})
-        self.assertEqual(ask("shb", "races", "--"), {"--workers", "--list", "--help"})
-        self.assertEqual(ask("shb-x", "--kn"), {"--known"})
-        self.assertEqual(ask("shb-x", "--engine", ""), {"a", "b"})
+        for command in sorted(PAGES)[1:]:
+            wanted = options_of(self.help(command))
+            self.assertIn("--help", wanted)
+            self.assertLessEqual(wanted, ask(*command.split(), "--"), command)
+        self.assertEqual(ask("shb-view", "ap"), {"app.std"})
 
     def test_bash(self):
-        self.need("bash")
+        if not os.path.exists("/usr/share/bash-completion/bash_completion"):
+            self.skipTest("bash-completion isn't installed")
         self.expect_all(self.bash)
-        self.assertEqual(self.bash("shb-x", "ap"), set())       # bash completes files then
-        for words in ((), ("--keep",), ("-o", "ls"), ("--",)):  # before a program's name
-            self.assertIn("ls", self.bash("shb-r", *words, "l"))
-        self.assertEqual(self.bash("shb-r", "ls", "l"), set())
-
-    def test_fish(self):
-        self.need("fish")
-        self.expect_all(self.fish)
-        self.assertEqual(self.fish("shb-x", "ap"), {"app.std"})
 
     def test_zsh(self):
         self.need("zsh")
         self.expect_all(self.zsh)
-        self.assertEqual(self.zsh("shb-x", "ap"), {"app.std"})
+
+    def test_fish(self):
+        """It makes completions of manual pages."""
+        if not os.path.exists(FISH):
+            self.skipTest("fish isn't installed")
+        for command in PAGES:
+            name = command.replace(" ", "-")
+            said = call(sys.executable, FISH, "--stdout", self.prefix / MANUAL / f"{name}.1")
+            self.assertLessEqual(options_of(self.help(command)),
+                                 {f"--{option}" for option in re.findall(" -l ([a-z-]+)", said)}, command)
 
 
 # What the zsh reads first. Matches are offered by `compadd`: this one notes them, too.

@@ -143,7 +143,7 @@ class Package(installing.Case):
         unpacked, alone = installing.packaged()[2], {"PATH": "/nowhere"}
         self.assertIn("race 1: 4 5\n",
                       call(unpacked / "bin/shb", "races", unpacked / "examples/fork-join.std", env=alone))
-        self.assertIn("usage: shb-std ", call(unpacked / "bin/shb-std", "--help", env=alone))
+        self.assertIn("Usage: shb-std ", call(unpacked / "bin/shb-std", "--help", env=alone))
         for command in ("shb-farm", "shb-fix", "shb-record", "shb-view"):
             ran = installing.subprocess.run([unpacked / "bin" / command, "--help"],
                                             stdout=installing.subprocess.PIPE,

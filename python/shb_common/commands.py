@@ -32,11 +32,13 @@ class Parser(argparse.ArgumentParser):
                          # what is short for one option today may be for another tomorrow
                          allow_abbrev=False, **more)
         self.about, self.notes, self.status = about, notes, status
+        # as clap has them in the help of `shb`, and as help2man reads them
+        self._positionals.title, self._optionals.title = "Arguments", "Options"
 
     def format_help(self):
         notes = f"{self.notes.rstrip()}\n\nshb {installed()}\n" if installed() else self.notes
         self.description, self.epilog = filled(self.about), filled(notes)
-        return super().format_help()
+        return super().format_help().replace("usage:", "Usage:", 1)
 
     def error(self, message):
         tell(f"{self.format_usage()}{self.prog}: {printable(os.fsencode(message))}")

@@ -51,6 +51,7 @@ Known places:
 
 Exit status:
   The first that applies:
+
   3  wrong command line
   4  no trace, or a folder, a file or an engine failed; the reason is on
      standard error
@@ -66,6 +67,7 @@ Exit status:
   stacks), places, unknown, known, stale (lines of known places), unreported
   (places whose full report is missing), and with --since new, gone, same. For
   example
+
       awk '$1 == "refused" && $2 > 0 { bad = 1 } END { exit bad }' out/facts.tsv
 
 Environment:
@@ -75,7 +77,7 @@ Environment:
 
 
 def arguments(words):
-    parser = Parser("shb-farm", ABOUT, NOTES)
+    parser = Parser("shb-farm", ABOUT, NOTES, usage="shb-farm [OPTION].. TRACES OUT")
     parser.add_argument("--known", metavar="FILE", help="places to skip")
     parser.add_argument("--fail-on-stale", action="store_true",
                         help="end with status 1 if a line of --known matched nothing")

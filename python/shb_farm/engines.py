@@ -111,16 +111,11 @@ class Watch:
 
     def __init__(self, work):
         self.path, self.whole, self.said = pathlib.Path(work.room) / passes.DONE, len(work.names), 0
-        self.start, self.progress = self.size(), Progress("shb-farm", sys.stderr)
-
-    def size(self):
-        try:
-            return self.path.stat().st_size
-        except OSError:
-            return 0
+        self.path.write_bytes(b"")
+        self.progress = Progress("shb-farm", sys.stderr)
 
     def look(self):
-        done = min(self.size() - self.start, self.whole)
+        done = min(self.path.stat().st_size, self.whole)
         tenth = 10 * done // self.whole
         if self.progress.is_terminal:
             self.progress.step(f"{done:,} of {counted(self.whole, 'trace')}", done, self.whole)
@@ -156,9 +151,7 @@ def run_group(words, given, watch):
 
 
 def run_pass(work, options):
-    path = passes.write(work)
-    ENGINES[options.engine](work, path, options)
-    os.unlink(path)
+    ENGINES[options.engine](work, passes.write(work), options)
 
 
 def say(text):

@@ -36,8 +36,9 @@ Runs and records a program, and explains its data races.
 
 The program has to be compiled with `-fsanitize=thread -g`. Every process that it starts is
 recorded too, and the races of the run are explained on standard error. Programs built by
-gcc need nothing else. clang links a library of its own: link with
--fno-sanitize-link-runtime -L{LIBRARY} -ltsan.
+gcc need nothing else. With clang, which links a library of its own, set
+
+  LDFLAGS = -fsanitize=thread -fno-sanitize-link-runtime -L{LIBRARY} -ltsan
 
 A place is a pair of locations that race, that of the first access and that of the second,
 each of its own program's source file."""

@@ -29,7 +29,7 @@ A place is a pair of locations that race, that of the first access and that of t
 
 
 def arguments(words, program):
-    parser = Parser("shb-view", ABOUT, STATUS)
+    parser = Parser("shb-view", ABOUT, STATUS, usage="shb-view [OPTION].. TRACE")
     parser.add_argument("--html", metavar="PAGE",
                         help="write a page to this file, not text to standard output")
     parser.add_argument("--text", action="store_true", help="beside the page, write the text too")

@@ -218,7 +218,7 @@ class Tables(farm.Case):
     def test_help(self):
         answer = self.farm("--help")
         self.assertEqual((answer.status, answer.err), (0, ""))
-        self.assertTrue(answer.out.startswith("usage: shb-farm "))
+        self.assertTrue(answer.out.startswith("Usage: shb-farm "))
 
 
 class Names(farm.Case):

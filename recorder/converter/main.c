@@ -134,15 +134,15 @@ static void write_trace(int has_stacks) {
 }
 
 static const char help[] =
-    "usage: shb-std [OPTION].. RECORD > TRACE\n"
-    "       shb-std --only RACES [OPTION].. RECORD > TRACE\n"
-    "       shb-std --list [--only RACES --page TRACE] [OPTION].. RECORD > TRACE\n"
+    "Usage: shb-std [OPTION].. RECORD > TRACE\n"
+    "  or:  shb-std --only RACES [OPTION].. RECORD > TRACE\n"
+    "  or:  shb-std --list [--only RACES --page TRACE] [OPTION].. RECORD > TRACE\n"
     "\n"
     "Turns a record of the recorder into an STD trace.\n"
     "\n"
     "The trace is cut at the most events and threads that shb takes.\n"
     "\n"
-    "options:\n"
+    "Options:\n"
     "  --list         the trace of the whole run, for 'shb places --list'\n"
     "  --only RACES   write a part of the trace, for a page: around the races of this\n"
     "                 file, the accesses of their variables, and locks, forks and\n"

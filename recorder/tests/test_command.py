@@ -680,7 +680,7 @@ int main(int count, char **words) {
         if not shutil.which("clang"):
             self.skipTest("clang isn't installed")
         help = self.record("--help")[1]
-        return re.search(r"link\s+with\s+(-fno-sanitize-link-runtime\s+-L\S+\s+-ltsan)\.", help)[1].split()
+        return re.search(r"LDFLAGS = -fsanitize=thread (-fno.+ -L\S+ -ltsan)\n", help)[1].split()
 
     def test_clang_in_one_step(self):
         status, _, said = self.record(self.program("status.c", *self.flags_of_clang(), compiler="clang"), "0",
@@ -1077,7 +1077,7 @@ int main(int count, char **words) {
         for word in ("-h", "--help"):
             status, out, said = self.record(word)
             self.assertEqual((status, said), (0, ""))
-            self.assertTrue(out.startswith("usage: shb-record "))
+            self.assertTrue(out.startswith("Usage: shb-record "))
 
     def test_installed(self):
         """All but shb in PREFIX/lib/shb, and links to the commands in PREFIX/bin."""
