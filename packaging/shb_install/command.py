@@ -12,7 +12,7 @@ import tempfile
 from shb_common.files import put
 from shb_common.standard import tell, words_of
 from shb_common.words import Refused
-from shb_install import machine, package, placing, sources, tree
+from shb_install import package, placing, sources, tree
 
 EPILOG = """\
 Exit status: 0; 1 if it can't be done, with the reason. Then an older installation stays as it was, or is
@@ -46,15 +46,32 @@ def place_of(options):
     return pathlib.Path(f"{options.destdir}{prefix_of(options)}")
 
 
+def check(shb):
+    """Refuses a program that isn't there or that this machine can't run, in the program's own words."""
+    if not shb.is_file():
+        raise Refused(f"{shb}: no such program; `make build` builds bin/shb, SHB=PATH names another one")
+    ran = subprocess.run([shb.absolute(), "--help"], stdin=subprocess.DEVNULL, capture_output=True)
+    if ran.returncode:
+        said = ran.stderr.decode(errors="replace").strip()
+        raise Refused(
+            f"{shb} can't be run on this machine: it ended with status {ran.returncode} {said}".rstrip())
+
+
+def need(*programs):
+    for program in programs:
+        if not shutil.which(program):
+            raise Refused(f"{program} isn't installed; no package can be made without it")
+
+
 def install(options):
     place, prefix = place_of(options), prefix_of(options)
-    machine.check(options.shb)
-    name, _, seconds = sources.version()
+    check(options.shb)
+    files, (version, _, seconds, *_) = sources.listed(), sources.commit()
     with tempfile.TemporaryDirectory() as room:
         made = pathlib.Path(room)
-        tree.make(made, options.shb, f"{prefix}/lib/shb/libtsan.so", sources.listed(), name)
+        tree.make(made, options.shb, f"{prefix}/lib/shb/libtsan.so", files, version)
         if shutil.which("help2man"):
-            tree.put_manual(made, prefix, name, seconds)
+            tree.put_manual(made, prefix, version, seconds)
         else:
             tell("install: help2man isn't installed, so there are no manual pages")
         placing.install(made, place)
@@ -70,50 +87,49 @@ def uninstall(options):
           else f"nothing is installed in {place}: there is no {place / placing.LISTED}")
 
 
-def packaged(options, made, prefix, library, strip=lambda made: None):
-    """Makes the tree of a package of the commit alone. Returns its version and the commit's time."""
+def packaged(options, made, prefix, library):
+    """Makes the tree of a package of the commit alone. Returns what is known of the commit."""
     files, changed = sources.listed(), sources.changed()
     if changed:
         raise Refused("a package is made of a commit, and these files are changed since: "
                       f"{', '.join(changed)}")
-    package.need("help2man")
-    machine.check(options.shb)
-    name, commit, seconds = sources.version()
-    tree.make(made, options.shb, library, files, name)
-    tree.put_manual(made, prefix, name, seconds)
-    strip(made)
-    (made / "share/doc/shb/PROVED.md").write_text(
-        package.proved_text(made, options.shb, name, commit, seconds))
-    return name, seconds
+    need("help2man")
+    check(options.shb)
+    version, _, seconds, *_ = commit = sources.commit()
+    tree.make(made, options.shb, library, files, version)
+    tree.put_manual(made, prefix, version, seconds)
+    return commit
 
 
 def dist(options):
     with tempfile.TemporaryDirectory() as room:
-        made = pathlib.Path(room)
-        name, seconds = packaged(options, made, "/path/to/shb", "libtsan.so.2")
+        made = pathlib.Path(room, "tree")
+        version, name, seconds, *_ = packaged(options, made, "/path/to/shb", "libtsan.so.2")
+        package.put_proved(made, options.shb, version, name)
         # the documents' links lead somewhere from the top too
-        for path in sorted((made / "share/doc/shb").iterdir()):
+        for path in (made / "share/doc/shb").iterdir():
             (made / path.name).symlink_to(f"share/doc/shb/{path.name}")
-        top = f"shb-{name}-x86_64-linux"
-        write_package(f"{top}.tar.xz", package.archive(made, top, seconds))
+        top = made.rename(made.with_name(f"shb-{version}-x86_64-linux"))
+        write_package(package.archive(top, seconds))
 
 
 def deb(options):
-    package.need("dpkg-deb")
+    need("dpkg-shlibdeps", "dpkg-deb")
     with tempfile.TemporaryDirectory() as room:
         made = pathlib.Path(room, "tree", "usr")
-        made.mkdir(parents=True)
-        name, seconds = packaged(options, made, "/usr", "/usr/lib/shb/libtsan.so", package.strip)
-        version = name.replace("-", "+")    # Debian takes what follows a hyphen for the packaging's revision
-        write_package(f"shb_{version}_amd64.deb",
-                      package.debian(made, version, sources.author(), seconds))
+        version, name, *more = packaged(options, made, "/usr", "/usr/lib/shb/libtsan.so")
+        programs = package.stripped(made)
+        package.put_proved(made, options.shb, version, name)
+        # Debian takes what follows a hyphen for the packaging's revision
+        write_package(package.debian(made, programs, version.replace("-", "+"), *more))
 
 
-def write_package(name, content):
-    """Writes a package, and beside it its checksum, as `sha256sum --check` reads it."""
-    put(sources.TOP / name, content)
-    put(sources.TOP / f"{name}.sha256", f"{hashlib.sha256(content).hexdigest()}  {name}\n".encode())
-    print(sources.TOP / name)
+def write_package(made):
+    """Puts a package into the checkout, and beside it its checksum, as `sha256sum --check` reads it."""
+    place, content = sources.TOP / made.name, made.read_bytes()
+    put(place, content)
+    put(f"{place}.sha256", f"{hashlib.sha256(content).hexdigest()}  {made.name}\n".encode())
+    print(place)
 
 
 def main(words):

@@ -2,8 +2,8 @@
 
 import pathlib
 import subprocess
-import time
 
+from shb_common.version import version
 from shb_common.words import Refused
 
 TOP = pathlib.Path(__file__).resolve().parents[2]
@@ -33,17 +33,6 @@ def changed():
     return sorted(name for name in git("diff", "--name-only", "-z", "HEAD").split("\0") if name)
 
 
-def version():
-    """The last commit's day and name, with a word if files were changed since; its whole name; its time."""
-    commit, seconds = git("log", "-1", "--format=%H %ct").split()
-    name = f"{day(int(seconds)).replace('-', '.')}-{commit[:12]}"
-    return name + ("-changed" if changed() else ""), commit, int(seconds)
-
-
-def author():
-    """The author of the last commit, as mail has it."""
-    return git("log", "-1", "--format=%an <%ae>").strip()
-
-
-def day(seconds):
-    return time.strftime("%Y-%m-%d", time.gmtime(seconds))
+def commit():
+    """Of the last commit its version, its name, its time in seconds and as mail has it, and its author."""
+    return (version(), *git("log", "-1", "--format=%H%n%ct%n%cD%n%an <%ae>").splitlines())

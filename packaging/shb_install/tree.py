@@ -90,7 +90,7 @@ def put_manual(tree, prefix, version, seconds):
     """Has help2man make the page of each command from its help, which names the tree's folder."""
     (tree / MANUAL).mkdir(parents=True)
     environment = {"PATH": f"{tree}/bin:{os.environ.get('PATH', os.defpath)}", "LC_ALL": "C.UTF-8",
-                   "COLUMNS": "80", "PYTHONDONTWRITEBYTECODE": "1", "SOURCE_DATE_EPOCH": str(seconds)}
+                   "COLUMNS": "80", "PYTHONDONTWRITEBYTECODE": "1", "SOURCE_DATE_EPOCH": seconds}
     for command, gist in PAGES.items():
         name = command.replace(" ", "-")
         words = ["help2man", "--no-info", f"--name={gist}", f"--version-string={name} {version}",

@@ -264,8 +264,12 @@ class Uninstalled(installing.Case):
         none = self.folder / "none"
         self.assertIn(f"{none}: no such program;",
                       self.refused("install", f"SHB={none}", f"PREFIX={self.folder}/prefix"))
-        self.assertIn("/bin/false can't be run on this machine: it ended with status 1",
-                      self.refused("install", "SHB=/bin/false", f"PREFIX={self.folder}/prefix"))
+        other = self.folder / "other"
+        other.write_text("#!/bin/sh\necho 'this program asks for popcnt' >&2\nexit 127\n")
+        other.chmod(0o755)
+        self.assertIn(f"{other} can't be run on this machine: it ended with status 127 this program asks for "
+                      "popcnt",
+                      self.refused("install", f"SHB={other}", f"PREFIX={self.folder}/prefix"))
         (self.folder / "prefix/bin").mkdir(parents=True)
         (self.folder / "prefix/bin/shb").write_text("theirs")
         self.assertIn("move them away first: bin/shb",
