@@ -1,6 +1,7 @@
 """The words of the command, which the Makefile calls."""
 
 import argparse
+import compileall
 import hashlib
 import os
 import pathlib
@@ -76,7 +77,8 @@ def install(options):
             tell("install: help2man isn't installed, so there are no manual pages")
         placing.install(made, place)
     if not options.destdir:     # else whoever makes a package of it does that
-        placing.compile_modules(place)
+        # once, as else each call of a user who may not write there would
+        compileall.compile_dir(place / tree.HOME, quiet=2)
     print(f"installed in {place}")
 
 

@@ -8,13 +8,12 @@ on, and uninstalling leaves nothing.
 """
 
 import collections
-import compileall
 import contextlib
 import os
 import pathlib
 import shutil
-import stat
 
+from shb_common.files import open_regular
 from shb_common.standard import faults_of
 from shb_common.words import Refused
 
@@ -32,12 +31,10 @@ def read_list(place):
     """What is installed below a prefix; nothing if there is no list. Whoever can write the list says what is
     deleted, so it is refused if it isn't a file of the caller's, or names what no installation has."""
     try:
-        # which waits for nobody at a pipe
-        with os.fdopen(os.open(place / LISTED, os.O_RDONLY | os.O_NONBLOCK)) as file:
-            state = os.fstat(file.fileno())
-            if not stat.S_ISREG(state.st_mode) or state.st_uid != os.geteuid():
+        with open_regular(place / LISTED) as file:
+            if os.fstat(file.fileno()).st_uid != os.geteuid():
                 raise Refused(f"{place / LISTED} isn't a file of yours: whoever installed can uninstall")
-            lines = file.read().splitlines()
+            lines = os.fsdecode(file.read()).splitlines()
     except FileNotFoundError:
         return NOTHING
     listed = Listed(frozenset(line for line in lines if not line.endswith(FOLDER)),
@@ -96,13 +93,6 @@ def install(tree, place):
     remove_files(place, old.files - {*names, LISTED})
     remove_compiled(place, old.files | set(names))
     write_list(place, Listed(frozenset([*names, LISTED]), remove_folders(place, folders)))
-
-
-def compile_modules(place):
-    """Compiles the Python once, as else each call of a user who may not write there would."""
-    for name in sorted(read_list(place).files):
-        if name.endswith(".py"):
-            compileall.compile_file(place / name, quiet=2)
 
 
 def uninstall(place):

@@ -10,9 +10,7 @@ import tempfile
 from shb_common.words import Refused
 from shb_install.sources import TOP
 
-# where commands (shb-NAME) and packages (shb_NAME) are, and what the recorder is built of
-FOLDERS = ("python", "recorder")
-# commands stand there beside their packages, as in the checkout; links lead to them
+# commands (shb-NAME) stand there beside their packages (shb_NAME), as in the checkout; links lead to them
 HOME = "lib/shb"
 DOCUMENTS = ("README.md", "CHANGELOG.md", "SECURITY.md", "CITATION.cff", "recorder/README.md")
 DOCUMENT_FOLDERS = ("docs/", "examples/")
@@ -43,19 +41,22 @@ def make(tree, shb, library, files, version):
     copy(shb, tree / "bin" / "shb")
     copy(TOP / "packaging/completion.bash", tree / BASH / "shb")
     copy(TOP / "packaging/completion.zsh", tree / ZSH / "_shb")
-    (tree / HOME).mkdir(parents=True)
-    (tree / HOME / "VERSION").write_text(version + "\n")
     with tempfile.TemporaryDirectory() as room:
-        parts = pathlib.Path(room)
+        recorder = pathlib.Path(room, "recorder")
         for name in files:
-            if name.startswith(tuple(f"{folder}/" for folder in FOLDERS)):
-                copy(TOP / name, parts / name)
-        build_recorder(parts / "recorder", library, version)
-        for folder in FOLDERS:
-            put_commands(parts / folder, tree)
-    for name in files:
-        if name in DOCUMENTS or name.startswith(DOCUMENT_FOLDERS) and name not in OF_THE_CHECKOUT:
-            copy(TOP / name, tree / "share/doc/shb" / name)
+            if name.startswith("python/shb"):
+                copy(TOP / name, tree / HOME / name[len("python/"):])
+            if name.startswith("recorder/"):
+                copy(TOP / name, recorder.parent / name)
+            if name in DOCUMENTS or name.startswith(DOCUMENT_FOLDERS) and name not in OF_THE_CHECKOUT:
+                copy(TOP / name, tree / "share/doc/shb" / name)
+        build_recorder(recorder, library, version)
+        for source in (recorder / "shb-std", recorder / "module-reader", *recorder.glob("lib/libtsan*")):
+            copy(source, tree / HOME / source.name)
+    (tree / HOME / "VERSION").write_text(version + "\n")
+    for command in (tree / HOME).glob("shb-*"):
+        (tree / "bin" / command.name).symlink_to(f"../{HOME}/{command.name}")
+        (tree / BASH / command.name).symlink_to("shb")
 
 
 def build_recorder(folder, library, version):
@@ -70,20 +71,6 @@ def copy(source, place):
     """Copies a file, executable if the source is, or a link."""
     place.parent.mkdir(parents=True, exist_ok=True)
     shutil.copy(source, place, follow_symlinks=False)
-
-
-def put_commands(folder, tree):
-    """Puts the commands of a folder, their packages and the library together, with links in bin, and to the
-    completion in bash, which is one for all."""
-    home = tree / HOME
-    for source in sorted(folder.glob("shb-*")):
-        copy(source, home / source.name)
-        (tree / "bin" / source.name).symlink_to(os.path.relpath(home / source.name, tree / "bin"))
-        (tree / BASH / source.name).symlink_to("shb")
-    for package in sorted(folder.glob("shb_*")):
-        shutil.copytree(package, home / package.name)
-    for source in sorted([*(folder / "lib").glob("libtsan*"), *folder.glob("module-reader")]):
-        copy(source, home / source.name)
 
 
 def put_manual(tree, prefix, version, seconds):

@@ -138,7 +138,7 @@ class Placing(Base):
     def test_a_list_of_another_or_that_is_no_file_is_refused_at_once(self):
         (self.place / "lib/shb").mkdir(parents=True)
         os.mkfifo(self.place / placing.LISTED)
-        with self.assertRaisesRegex(Refused, "isn't a file of yours"):
+        with self.assertRaisesRegex(OSError, "it isn't a regular file"):
             placing.uninstall(self.place)
         (self.place / placing.LISTED).unlink()
         (self.place / placing.LISTED).write_text(placing.LISTED + "\n")
