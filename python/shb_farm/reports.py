@@ -18,15 +18,20 @@ MARKED = "a byte order mark before the first line is part of the first thread's 
 
 def analysed(work, name, trace):
     """How the program ended on an open trace, and the places that it found. A full report is put in place."""
-    try:
-        with traces.unpacked(trace, name, work) as text:
-            METER.text = os.fstat(text.fileno()).st_size
-            if not work.last and memory_for(METER.text) > work.memory:
-                # the next pass that has room for it takes it up
-                return End("memory", str(work.memory)), []
-            return listed(work, text) if work.form == passes.LIST else (kept(work, name, text), [])
-    except traces.BadPacking as fault:
-        return fault.end, []
+    unpacker = traces.UNPACKERS.get(os.path.splitext(name)[1])
+    if not unpacker:
+        return analysed_text(work, name, trace)
+    with temporary_file(work.room) as (text, _):
+        end = traces.unpack(unpacker, trace, text, work)
+        return analysed_text(work, name, text) if end.kind == "report" else (end, [])
+
+
+def analysed_text(work, name, text):
+    METER.text = os.fstat(text.fileno()).st_size
+    if not work.last and memory_for(METER.text) > work.memory:
+        # the next pass that has room for it takes it up
+        return End("memory", str(work.memory)), []
+    return listed(work, text) if work.form == passes.LIST else (kept(work, name, text), [])
 
 
 def listed(work, trace):

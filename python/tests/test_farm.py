@@ -312,7 +312,7 @@ class Names(farm.Case):
             "cut.std.xz": "refused",
             "damaged.std.gz": "refused", "no.std.gz": "refused", "no.std.xz": "refused"})
         self.assertEqual((ends["bad.std.gz"][1], ends["no.std.gz"][1]),
-                         (BAD_WORDS, "it can't be unpacked: Not a gzipped file"))
+                         (BAD_WORDS, "it can't be unpacked: gzip: stdin: not in gzip format"))
         for name in ("cut.std.gz", "cut.std.xz", "damaged.std.gz", "no.std.gz", "no.std.xz"):
             self.assertTrue(ends[name][1].startswith("it can't be unpacked: "), ends[name])
         self.assertEqual(list((self.out / "tmp").iterdir()), [])

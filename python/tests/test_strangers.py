@@ -4,8 +4,8 @@ import gzip
 import json
 import lzma
 import os
-import signal
 import subprocess
+import sys
 
 import farm
 from farm import BAD, CLEAN, OTHER_ORDER, RACE
@@ -36,23 +36,13 @@ class Packed(farm.Case):
 
     def test_unpacking_has_the_limits_of_the_analysis(self):
         """What never ends, takes memory without end, or is killed ends as that."""
-        def endless(trace):
-            while True:
-                pass
-
-        def greedy(trace):
-            return bytes(2 << 30)
-
         work = Pass("", "", "", "", str(self.folder), memory=64, seconds=1, size=1)
-        for opener, wanted in (
-                (endless, ("time", "1")),
-                (greedy, ("refused", "it can't be unpacked: that takes more than 1024 MiB of memory")),
-                (lambda trace: os.kill(os.getpid(), signal.SIGKILL),
-                 ("failed", "unpacking was ended by signal 9"))):
-            with open(os.devnull, "rb") as trace, open(self.folder / "text", "wb") as text, \
-                    self.assertRaises(traces.BadPacking) as refused:
-                traces.unpack(opener, trace, text, work)
-            self.assertEqual(refused.exception.end, wanted)
+        greedy = f"{sys.executable} -c 'bytes(2 << 30)' 2>&1 | tail -1 >&2; exit 1"
+        for words, wanted in (("while :; do :; done", ("time", "1")),
+                              (greedy, ("refused", "it can't be unpacked: MemoryError")),
+                              ("exec cat /dev/zero", ("size", "1")), ("kill -9 $$", ("failed", "signal 9 "))):
+            with open(os.devnull, "rb") as trace, open(self.folder / "text", "wb") as text:
+                self.assertEqual(traces.unpack(["sh", "-c", words], trace, text, work), wanted)
 
     def test_a_text_that_needs_more_memory_goes_on_unread(self):
         """It is analysed once, by the pass that has room for it."""
