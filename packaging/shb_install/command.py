@@ -2,7 +2,6 @@
 
 import argparse
 import compileall
-import hashlib
 import os
 import pathlib
 import shutil
@@ -58,79 +57,75 @@ def check(shb):
             f"{shb} can't be run on this machine: it ended with status {ran.returncode} {said}".rstrip())
 
 
-def need(*programs):
-    for program in programs:
-        if not shutil.which(program):
-            raise Refused(f"{program} isn't installed; no package can be made without it")
+def need(program):
+    if not shutil.which(program):
+        raise Refused(f"{program} isn't installed; no package can be made without it")
 
 
 def install(options):
     place, prefix = place_of(options), prefix_of(options)
     check(options.shb)
-    files, (version, _, seconds, *_) = sources.listed(), sources.commit()
+    files, commit = sources.listed(), sources.commit()
     with tempfile.TemporaryDirectory() as room:
         made = pathlib.Path(room)
-        tree.make(made, options.shb, f"{prefix}/lib/shb/libtsan.so", files, version)
+        tree.make(made, options.shb, f"{prefix}/lib/shb/libtsan.so", files, commit.version)
         if shutil.which("help2man"):
-            tree.put_manual(made, prefix, version, seconds)
+            tree.put_manual(made, prefix, commit)
         else:
             tell("install: help2man isn't installed, so there are no manual pages")
         placing.install(made, place)
-    if not options.destdir:     # else whoever makes a package of it does that
-        # once, as else each call of a user who may not write there would
+    if not options.destdir:     # where a package's own script does so; else each call of a user would
         compileall.compile_dir(place / tree.HOME, quiet=2)
     print(f"installed in {place}")
 
 
 def uninstall(options):
     place = place_of(options)
-    was_there = placing.uninstall(place)
-    print(f"uninstalled from {place}" if was_there
+    print(f"uninstalled from {place}" if placing.uninstall(place)
           else f"nothing is installed in {place}: there is no {place / placing.LISTED}")
 
 
 def packaged(options, made, prefix, library):
-    """Makes the tree of a package of the commit alone. Returns what is known of the commit."""
+    """Makes the tree of a package of the commit alone, which is returned."""
     files, changed = sources.listed(), sources.changed()
     if changed:
         raise Refused("a package is made of a commit, and these files are changed since: "
                       f"{', '.join(changed)}")
     need("help2man")
     check(options.shb)
-    version, _, seconds, *_ = commit = sources.commit()
-    tree.make(made, options.shb, library, files, version)
-    tree.put_manual(made, prefix, version, seconds)
+    commit = sources.commit()
+    tree.make(made, options.shb, library, files, commit.version)
+    tree.put_manual(made, prefix, commit)
     return commit
 
 
 def dist(options):
     with tempfile.TemporaryDirectory() as room:
         made = pathlib.Path(room, "tree")
-        version, name, seconds, *_ = packaged(options, made, "/path/to/shb", "libtsan.so.2")
-        package.put_proved(made, options.shb, version, name)
+        commit = packaged(options, made, "/path/to/shb", "libtsan.so.2")
+        package.put_proved(made, options.shb, commit)
         # the documents' links lead somewhere from the top too
         for path in (made / "share/doc/shb").iterdir():
             (made / path.name).symlink_to(f"share/doc/shb/{path.name}")
-        top = made.rename(made.with_name(f"shb-{version}-x86_64-linux"))
-        write_package(package.archive(top, seconds))
+        top = made.rename(made.with_name(f"shb-{commit.version}-x86_64-linux"))
+        write_package(package.archive(top, commit.seconds))
 
 
 def deb(options):
-    need("dpkg-shlibdeps", "dpkg-deb")
+    need("dpkg-shlibdeps")
     with tempfile.TemporaryDirectory() as room:
         made = pathlib.Path(room, "tree", "usr")
-        version, name, *more = packaged(options, made, "/usr", "/usr/lib/shb/libtsan.so")
+        commit = packaged(options, made, "/usr", "/usr/lib/shb/libtsan.so")
         programs = package.stripped(made)
-        package.put_proved(made, options.shb, version, name)
-        # Debian takes what follows a hyphen for the packaging's revision
-        write_package(package.debian(made, programs, version.replace("-", "+"), *more))
+        package.put_proved(made, options.shb, commit)
+        write_package(package.debian(made, programs, commit))
 
 
 def write_package(made):
     """Puts a package into the checkout, and beside it its checksum, as `sha256sum --check` reads it."""
-    place, content = sources.TOP / made.name, made.read_bytes()
-    put(place, content)
-    put(f"{place}.sha256", f"{hashlib.sha256(content).hexdigest()}  {made.name}\n".encode())
+    place = sources.TOP / made.name
+    put(place, made.read_bytes())
+    put(f"{place}.sha256", f"{package.checksum_of(made)}  {made.name}\n".encode())
     print(place)
 
 

@@ -46,12 +46,12 @@ def is_built_here(shb):
     return built.exists() and built.read_text().split()[:1] == [checksum_of(shb)]
 
 
-def put_proved(made, shb, version, commit):
+def put_proved(made, shb, commit):
     """By which commit and kit the program was proved, as far as that is known."""
     origin = (BUILT if is_built_here(shb) else NAMED).format(
         logic=LOGIC.search((TOP / "build.sh").read_text())[1])
     (made / "share/doc/shb/PROVED.md").write_text(PROVED.format(
-        version=version, commit=commit, checksum=checksum_of(made / "bin/shb"), origin=origin))
+        version=commit.version, commit=commit.name, checksum=checksum_of(made / "bin/shb"), origin=origin))
 
 
 def archive(made, seconds):
@@ -72,11 +72,13 @@ def stripped(made):
     return programs
 
 
-def debian(made, programs, version, seconds, date, author):
+def debian(made, programs, commit):
     """The tree of /usr as a package of Debian, in which nothing is newer than its commit."""
     top, room, documents = made.parent, made.parents[1], made / "share/doc/shb"
+    version = commit.version.replace("-", "+")  # what follows a hyphen is the packaging's revision
     source = shutil.copytree(TOP / "packaging/debian", room / "debian")
-    (source / "changelog").write_text(CHANGES.format(version=version, author=author, date=date))
+    (source / "changelog").write_text(CHANGES.format(
+        version=version, author=commit.author, date=commit.date))
     shutil.copy(source / "changelog", documents)
     shutil.copy(source / "copyright", documents)
     run("gzip", "-9n", documents / "changelog", *(made / MANUAL).iterdir())
@@ -86,8 +88,8 @@ def debian(made, programs, version, seconds, date, author):
     shutil.copy(source / "prerm", top / "DEBIAN")
     run("chmod", "-R", "go=rX", top)
     run("dpkg-shlibdeps", "--warnings=0", *programs, cwd=room)
-    run("dpkg-gencontrol", f"-P{top}", f"-DMaintainer={author}", cwd=room)
+    run("dpkg-gencontrol", f"-P{top}", f"-DMaintainer={commit.author}", cwd=room)
     package = room / f"shb_{version}_amd64.deb"
     run("dpkg-deb", "--root-owner-group", "-Zxz", "--build", top, package, stdout=subprocess.DEVNULL,
-        env={**os.environ, "SOURCE_DATE_EPOCH": seconds})
+        env={**os.environ, "SOURCE_DATE_EPOCH": commit.seconds})
     return package

@@ -1,5 +1,6 @@
 """What belongs to the commit. git is asked for it, so nothing else of the folder is installed or packaged."""
 
+import collections
 import pathlib
 import subprocess
 
@@ -7,6 +8,9 @@ from shb_common.version import version
 from shb_common.words import Refused
 
 TOP = pathlib.Path(__file__).resolve().parents[2]
+
+# A commit: its day and name as a version, its whole name, its time in seconds and as mail has it, its author.
+Commit = collections.namedtuple("Commit", "version name seconds date author")
 
 
 def git(*words):
@@ -34,5 +38,5 @@ def changed():
 
 
 def commit():
-    """Of the last commit its version, its name, its time in seconds and as mail has it, and its author."""
-    return (version(), *git("log", "-1", "--format=%H%n%ct%n%cD%n%an <%ae>").splitlines())
+    """The last commit."""
+    return Commit(version(), *git("log", "-1", "--format=%H%n%ct%n%cD%n%an <%ae>").splitlines())

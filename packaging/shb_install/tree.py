@@ -2,7 +2,6 @@
 
 import os
 import pathlib
-import re
 import shutil
 import subprocess
 import tempfile
@@ -28,7 +27,6 @@ PAGES = {
     "shb-std": "turns a record of a program into a trace",
     "shb-view": "explains the races of a trace",
 }
-SEE_ALSO = "[SEE ALSO]\n" + ",\n".join(".BR " + re.sub("[ -]", r"\\-", name) + " (1)" for name in PAGES)
 EXAMPLE = '.SS "Example:"\n.IP\n'    # where a page has a command with what it writes, as its last part
 # as in its Makefile without -g, which names folders
 RECORDER_FLAGS = "-O2 -Wall -Wextra -Wno-unused-parameter"
@@ -73,20 +71,21 @@ def copy(source, place):
     shutil.copy(source, place, follow_symlinks=False)
 
 
-def put_manual(tree, prefix, version, seconds):
+def put_manual(tree, prefix, commit):
     """Has help2man make the page of each command from its help, which names the tree's folder."""
     (tree / MANUAL).mkdir(parents=True)
     environment = {"PATH": f"{tree}/bin:{os.environ.get('PATH', os.defpath)}", "LC_ALL": "C.UTF-8",
-                   "COLUMNS": "80", "PYTHONDONTWRITEBYTECODE": "1", "SOURCE_DATE_EPOCH": seconds}
-    for command, gist in PAGES.items():
-        name = command.replace(" ", "-")
-        words = ["help2man", "--no-info", f"--name={gist}", f"--version-string={name} {version}",
-                 "--include=/dev/stdin", command]
-        text = subprocess.run(words, env=environment, input=SEE_ALSO.encode(), stdout=subprocess.PIPE,
+                   "COLUMNS": "80", "PYTHONDONTWRITEBYTECODE": "1", "SOURCE_DATE_EPOCH": commit.seconds}
+    pages = {command: command.replace(" ", "-") for command in PAGES}
+    also = "[SEE ALSO]\n" + ",\n".join(f".BR {in_roff(page)} (1)" for page in pages.values())
+    for command, page in pages.items():
+        words = ["help2man", "--no-info", f"--name={PAGES[command]}", "--include=/dev/stdin",
+                 f"--version-string={page} {commit.version}", command]
+        text = subprocess.run(words, env=environment, input=also.encode(), stdout=subprocess.PIPE,
                               check=True).stdout.decode()
         text = text.replace(in_roff(os.path.realpath(tree)), in_roff(prefix))
-        (tree / MANUAL / f"{name}.1").write_text(text.replace(EXAMPLE, f"{EXAMPLE}.nf\n"))
+        (tree / MANUAL / f"{page}.1").write_text(text.replace(EXAMPLE, f"{EXAMPLE}.nf\n"))
 
 
-def in_roff(path):
-    return path.replace("-", r"\-")
+def in_roff(text):
+    return text.replace("-", r"\-")
