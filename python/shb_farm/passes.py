@@ -9,14 +9,12 @@ import pathlib
 import re
 import shutil
 import tempfile
-import time
 
 from shb_common.sums import blake2b
 
 LIST, FULL = "list", "full"     # the places of a trace; its report with schedules
 FOLDER_OF = {LIST: "outcomes", FULL: "reports"}
 LOCK, DONE = "lock", "done"
-TEMPORARY_SECONDS = 86_400      # a day: what no lock tells about is deleted then
 MOST_OF_NAME = 60               # characters of a trace's name that are in the name of its outcome
 OTHER = re.compile(r"[^A-Za-z0-9._-]+")
 
@@ -59,22 +57,10 @@ def room_in(out):
 def clean(tmp):
     """Deletes what killed runs have left. Other farms may work in the same folder: what is locked stays, and
     what they delete meanwhile is passed over."""
-    for path in tmp.iterdir():
-        with contextlib.suppress(OSError):
-            if is_left(path):
-                shutil.rmtree(path) if path.is_dir() else path.unlink()
-
-
-def is_left(path):
-    """Whether a file or folder is of no run that still works."""
-    try:
-        with open(path / LOCK, "rb") as lock:
+    for path in tmp.glob(f"*/{LOCK}"):
+        with contextlib.suppress(OSError), open(path, "rb") as lock:
             fcntl.flock(lock, fcntl.LOCK_EX | fcntl.LOCK_NB)
-            return True
-    except BlockingIOError:
-        return False
-    except OSError:
-        return path.lstat().st_mtime < time.time() - TEMPORARY_SECONDS
+            shutil.rmtree(path.parent)
 
 
 def key_of(name):

@@ -124,18 +124,6 @@ class Again(farm.Case):
 
 
 class Rests(farm.Case):
-    def test_what_killed_runs_have_left_is_deleted_after_a_day(self):
-        room = self.out / "tmp"
-        (room / "old-folder" / "windows").mkdir(parents=True)
-        for name in ("old-folder/windows/window-0001.std", "old", "new"):
-            (room / name).touch()
-        for name in ("old-folder", "old"):
-            os.utime(room / name, (1, 1))
-        self.trace("clean.std", CLEAN)
-        self.assertEqual(self.farm().status, 0)
-        self.assertEqual([path.name for path in room.iterdir()], ["new"])
-
-
     def test_what_a_killed_run_has_left_is_deleted_at_the_next_start(self):
         """What is locked is of a run that still works."""
         room = self.out / "tmp"
