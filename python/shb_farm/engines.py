@@ -14,7 +14,7 @@ import sys
 import tempfile
 import time
 
-from shb_common.children import end_with
+from shb_common.children import apart
 from shb_common.progress import Progress
 from shb_common.standard import tell
 from shb_common.words import Refused, counted
@@ -126,13 +126,11 @@ class Watch:
 
 def run_group(words, given, watch):
     """Runs a command with all that it starts in a process group, which ends when this process ends."""
-    parent = os.getpid()
     with tempfile.TemporaryFile("w+") as numbers:
         numbers.write(given)
         numbers.seek(0)
         try:
-            started = subprocess.Popen(words, stdin=numbers, stdout=sys.stderr, start_new_session=True,
-                                       preexec_fn=lambda: end_with(parent))
+            started = subprocess.Popen(words, stdin=numbers, stdout=sys.stderr, **apart())
         except FileNotFoundError:
             raise Refused(f"{words[0]} isn't installed")
     try:
