@@ -583,8 +583,8 @@ inlined_frame *outermost(inlined_frame *f) {
 /* By their symbols. */
 int in_one_function(u64 caller, u64 other) {
     module *m = module_at(caller);
-    symbol *s = m ? symbol_at(m, caller - 1) : 0, *o = m
-        && module_at(other) == m ? symbol_at(m, other - 1) : 0;
+    if (!m || module_at(other) != m) return 0;
+    symbol *s = symbol_at(m, caller - 1), *o = symbol_at(m, other - 1);
     if (!s || !o || s == o) return s && s == o;
     char *one = function_part(copied(s->name)), *two = function_part(copied(o->name));
     int same = !strcmp(one, two);
