@@ -237,7 +237,7 @@ static u64 piece_event(u64 i, const use *u, u32 number, const char *operation, u
     else {
         part name = variable_name(p->at, block_of(p->block));
         int length = snprintf(text, sizeof text, "%.*s!%s", (int)name.length, name.at, thread_name(writer));
-        event_number = event(u->thread, operation, (part){text, length}, 0, caller);
+        event_number = event(u->thread, operation, (part){text, length}, caller);
     }
     if (is_kept) note_sight(u->thread, u->own, number, writer, *operation == 'w');
     if (!event_number || !is_repeated(i)) return event_number;

@@ -226,31 +226,19 @@ void write_names_in_blocks(FILE *to);
    for good. */
 const char *local_now(u64 at, const block *b);
 
-/* state.c: what a trace can go on with. */
-enum event_kind { IS_ACCESS, IS_ACQUIRE, IS_RELEASE, IS_FORK, IS_JOIN, IS_MARK };
-u32 trace_lock(part name);             /* its number, from 1 */
-part lock_name(u32 number);            /* with WIDE bytes that may be read; it stands for good */
-u32 trace_threads(void);               /* so many were met */
-/* 0 where the trace can't go on with it; other: the lock that it takes or releases, or the thread that it
-   forks or joins. */
-int trace_event(u64 length, enum event_kind kind, u32 thread, u32 other);
-/* the same of an access, in a thread that is in the trace already */
-int trace_access(u64 length, u32 thread);
-void forget_trace(void);               /* its locks: threads are forgotten with all that is known of them */
-
 /* page.c: which of the run's events the trace has that is written, and the uses of variables in races. */
-enum trace_step { TRACE_PAUSES, SPAN_BEGINS, SPAN_GOES_ON, SPAN_ENDS, TRACE_ENDS };
 int read_races(const char *path, u64 run_events);  /* of a page, whose trace is next; 0: there are none */
 void open_uses(const char *path);
 int is_for_page(void);
 int takes_piece(u32 piece);            /* has it the accesses of this piece? */
-enum trace_step step_trace(u64 number);                      /* before each event of the run, by its number */
+void step_trace(u64 number);           /* before each event of the run, by its number */
 void end_trace(const char *why);
 int is_over(void);                     /* it has no more events */
 extern u64 span_last;                  /* the last event of the span that the trace is in; or 0 */
 void note_written(u64 number, u64 in_page);                  /* an event of the run, by both its numbers */
 void note_part(u64 in_page);           /* a span begins or ends behind so many events */
-part name_of_held(u64 key);            /* objects.c: of a lock that a thread holds */
+part lock_name(u32 number);            /* objects.c: with WIDE bytes that may be read */
+part name_of_held(u64 key);            /* the same: of a lock that a thread holds */
 int is_for_reading(u64 key);           /* the same: does it hold it for reading? */
 void count_use(u32 t, u64 caller, u64 own_place, u32 piece, char word);
 enum { NOBODY = -1u };
@@ -301,13 +289,14 @@ void name_by_own(u32 t, u64 i);
 void give_name(u32 t, const char *piece, int is_first);
 const char *thread_name(u32 t);        /* with an end */
 int has_events(u32 t);
+int meets_thread(u32 t);               /* the trace names it; are these no more than it may have? */
 void pass_event(u32 t);                /* an access that the page's trace lacks */
 part name_of_thread(u32 t);            /* with WIDE bytes that may be read */
 part variable_name(u64 address, const block *b);             /* it stands until the next call */
-/* Each returns the event's number in the trace, or 0. name: with WIDE bytes behind; other: see trace_event */
-u64 event(u32 t, const char *operation, part name, u32 other, u64 caller);
+/* Each returns the event's number in the trace, or 0. name: with WIDE bytes behind */
+u64 event(u32 t, const char *operation, part name, u64 caller);
 u64 access_event(u32 t, const char *operation, u32 piece, u64 caller, u64 own_place);
-void lock_event(u32 t, const char *operation, u32 lock, u64 caller);   /* the lock's number in state.c */
+void lock_event(u32 t, const char *operation, u32 lock, u64 caller);
 /* the same, which orders no thread */
 void hold_event(u32 t, const char *operation, u32 lock, u64 caller, u32 stack);
 extern int is_unwritten;               /* the trace is made for that of a page alone */

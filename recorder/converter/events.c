@@ -8,11 +8,12 @@ limits most = LIMITS_OF_SHB;
 u64 events, written;
 const char *cut_reason;
 static u64 bytes;
+static u32 thread_count;               /* that the trace names */
 
 void begin_events(void) {
     events = written = bytes = 0;
+    thread_count = 0;
     cut_reason = 0;
-    forget_trace();
 }
 
 /* "_" stands for what would end a field or a line, and for the signs behind which names of locks and
@@ -57,6 +58,12 @@ part name_of_thread(u32 t) {
 const char *thread_name(u32 t) { return name_of_thread(t).at; }
 
 int has_events(u32 t) { return threads[t].has_begun; }
+
+int meets_thread(u32 t) {
+    thread_count += !threads[t].is_met;
+    threads[t].is_met = 1;
+    return thread_count <= most.threads;
+}
 
 /* ---- texts: each adds to what is written before `to`, and gives where the next may stand ---- */
 static inline char *add(char *to, part text) { return mempcpy(to, text.at, text.length); }
@@ -169,19 +176,6 @@ static inline char *add_line(char *to, part thread, const char *operation, part 
     return to;
 }
 
-static enum event_kind kind_of(const char *operation) {
-    if (!operation[1]) return IS_ACCESS;
-    if (*operation == 'b') return IS_MARK;
-    return *operation == 'a' ? IS_ACQUIRE : *operation == 'r' ? IS_RELEASE : *operation == 'f' ? IS_FORK
-        : IS_JOIN;
-}
-
-/* A record that was changed may have events that a trace can't go on with. */
-static void need_event(int can_follow, const char *line, const char *end) {
-    if (!can_follow)
-        die("event %lu, %.*s: a trace can't go on with this event", events + 1, (int)(end - line - 1), line);
-}
-
 static char *room_for_line(void) {
     if (lines_bytes > sizeof lines - SHB_LINE) write_lines();
     return lines + lines_bytes;
@@ -203,20 +197,13 @@ static void add_held(const char *operation, u32 t, const hold *h) {
     keep_line(end, *operation == 'a' ? h->stack : 0);
 }
 
-static enum trace_step meet_span(void) {
-    enum trace_step step = step_trace(events + 1);
-    if (step == SPAN_BEGINS) note_part(written);
-    if (step == SPAN_BEGINS) each_held(add_held, "acq");
-    if (step == SPAN_ENDS) each_held(add_held, "rel");
-    if (step == SPAN_ENDS) note_part(written);
-    return step;
-}
-
-static int is_inside(enum trace_step step) { return step == SPAN_BEGINS || step == SPAN_GOES_ON; }
-
-/* Between spans a trace has forks and joins, and the first event of a thread. */
-static int has_event(enum trace_step step, enum event_kind kind, int is_first) {
-    return is_inside(step) || (step != TRACE_ENDS && (is_first || kind == IS_FORK || kind == IS_JOIN));
+static void meet_span(void) {
+    u64 before = span_last;
+    step_trace(events + 1);
+    if (!before == !span_last || is_over()) return;
+    if (span_last) note_part(written);
+    each_held(add_held, span_last ? "acq" : "rel");
+    if (!span_last) note_part(written);
 }
 
 void pass_event(u32 t) {
@@ -227,29 +214,35 @@ void pass_event(u32 t) {
 }
 
 /* ---- an event ---- */
-static u64 write_event(u32 t, const char *operation, part name, u32 other, u64 caller, u32 stack) {
-    enum event_kind kind = kind_of(operation);
-    int is_first = !has_events(t);
-    enum trace_step step = meet_span();
-    char *line = room_for_line();
-    part line_end = line_end_of(caller), thread = name_of_thread(t);
-    char *end = add_line(line, thread, operation, name, line_end);
-    if (written == most.events || bytes + (end - line) > most.bytes) {
-        end_trace(written == most.events ? "at the limit of events" : "at 1 GiB of text");
+/* Between spans a trace has forks and joins, and the first event of a thread. */
+static u64 write_event(u32 t, const char *operation, part name, u64 caller, u32 stack) {
+    int is_first = !has_events(t), is_lock = *operation == 'a' || (*operation == 'r' && operation[1]);
+    meet_span();
+    if (written == most.events) {
+        end_trace("at the limit of events");
         return 0;
     }
-    need_event(name.length && trace_event(end - line - 1, kind, t, other), line, end);
+    meets_thread(t);
+    threads[t].has_begun = 1;
+    if (!span_last && (is_over() || !(is_first || *operation == 'f' || *operation == 'j'))) {
+        events++;
+        return 0;
+    }
+    part thread = name_of_thread(t), line_end = line_end_of(caller);
+    char *line = room_for_line(), *end = add_line(line, thread, operation, name, line_end);
+    if (!span_last && is_lock) end = add_line(line, thread, "begin", thread, line_end);
+    if (bytes + (end - line) > most.bytes) {
+        end_trace("at 1 GiB of text");
+        return 0;
+    }
     events++;
-    if (!has_event(step, kind, is_first)) return 0;
-    if (!is_inside(step) && (kind == IS_ACQUIRE || kind == IS_RELEASE))
-        end = add_line(line, thread, "begin", thread, line_end);
     keep_line(end, stack);
     note_written(events, written);
     return written;
 }
 
 void hold_event(u32 t, const char *operation, u32 lock, u64 caller, u32 stack) {
-    write_event(t, operation, lock_name(lock), lock, caller, stack);
+    write_event(t, operation, lock_name(lock), caller, stack);
 }
 
 void lock_event(u32 t, const char *operation, u32 lock, u64 caller) {
@@ -260,14 +253,14 @@ void lock_event(u32 t, const char *operation, u32 lock, u64 caller) {
 }
 
 /* `name` may lie in a buffer that the writing of another event uses. */
-u64 event(u32 t, const char *operation, part name, u32 other, u64 caller) {
+u64 event(u32 t, const char *operation, part name, u64 caller) {
     char own_name[NAME_BYTES + THREAD_BYTES];
     if (is_over()) return 0;
     if (threads[t].unwritten) {
         name = (part){memcpy(own_name, name.at, name.length), name.length};
         write_holds(t);
     }
-    u64 number = write_event(t, operation, name, other, own_place(t, caller), stack_at(t, caller));
+    u64 number = write_event(t, operation, name, own_place(t, caller), stack_at(t, caller));
     if (*operation != 'r' || operation[1]) threads[t].epoch++;
     return number;
 }
@@ -276,11 +269,10 @@ u64 event(u32 t, const char *operation, part name, u32 other, u64 caller) {
 u64 access_event(u32 t, const char *operation, u32 number, u64 caller, u64 own) {
     part name = piece_name(number);
     int has_room = events < span_last && written < most.events;
-    int is_usual = has_room && !threads[t].unwritten && has_events(t) && name.length;
+    int is_usual = has_room && !threads[t].unwritten && has_events(t);
     char *line = room_for_line(),
         *end = is_usual ? add_line(line, name_of_thread(t), operation, name, line_end_of(own)) : line;
-    if (!is_usual || bytes + (end - line) > most.bytes) return event(t, operation, name, 0, caller);
-    need_event(trace_access(end - line - 1, t), line, end);
+    if (!is_usual || bytes + (end - line) > most.bytes) return event(t, operation, name, caller);
     events++;
     keep_line(end, stack_at(t, caller));
     note_written(events, written);

@@ -46,11 +46,11 @@ static void find_sharing(u64 i) {
 }
 
 static void write_fork(u32 t, u32 child, u64 caller) {
-    if (trace_threads() >= most.threads) {
+    if (!meets_thread(child)) {
         end_trace(most.before_thread);
         return;
     }
-    event(t, "fork", name_of_thread(child), child, caller);
+    event(t, "fork", name_of_thread(child), caller);
     threads[child].forked_by = t + 1;
     threads[child].created_at = stack_at(t, caller);
 }
@@ -58,8 +58,9 @@ static void write_fork(u32 t, u32 child, u64 caller) {
 /* Who joins a thread comes after who forked it only by an event in between. */
 static void write_join(u32 t, u32 child, u64 caller) {
     u32 by = threads[child].forked_by;
-    if (!has_events(child) && by && by != t + 1) event(child, "begin", name_of_thread(child), 0, caller);
-    event(t, "join", name_of_thread(child), child, caller);
+    if (!has_events(child) && by && by != t + 1) event(child, "begin", name_of_thread(child), caller);
+    meets_thread(child);
+    event(t, "join", name_of_thread(child), caller);
 }
 
 static void write_events(u64 i) {

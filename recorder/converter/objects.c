@@ -292,21 +292,27 @@ static which of_version(u32 version) { return (which){'@', version, 0}; }
 static which to_thread(u32 version, u32 t) { return (which){'>', version, t}; }
 static which by_thread(u32 version, u32 t) { return (which){'<', version, t}; }
 
+static INTERNED(part) locks;           /* of the trace: their names */
+part lock_name(u32 number) { return locks.at[number - 1]; }
+
 /* The number of a lock in the trace. Its name is made once. */
 static u32 lock_of(object *o, which w, u32 t) {
     enum { TAIL_BYTES = THREAD_BYTES + 40 };
-    static INTERNED(u32) numbers;      /* of those with a sign */
     char text[NAME_BYTES + TAIL_BYTES];
     const u64 thread = w.sign == 'r' ? t : w.thread;
-    u32 *known = w.sign ? ENTRY(numbers, index_of(o) << 8 | w.sign, thread << 32 | w.version) : &o->lock;
-    if (*known) return *known;
+    if (!w.sign && o->lock) return o->lock;
+    u32 number = INTERN(locks, index_of(o) << 8 | w.sign, thread << 32 | w.version);
+    if (!w.sign) o->lock = number;
+    if (locks.at[number - 1].length) return number;
     part name = variable_name(o->at, block_of(o->block));
     char *tail = mempcpy(text, name.at, name.length);
     if (w.sign == 'r') tail += snprintf(tail, TAIL_BYTES, "@reader.%s", thread_name(t));
     else if (w.sign) tail += snprintf(tail, TAIL_BYTES, "%s%u", o->mark, w.version);
     if (w.sign == '<' || w.sign == '>')
         tail += snprintf(tail, text + sizeof text - tail, "%c%s", w.sign, thread_name(w.thread));
-    return *known = trace_lock((part){text, tail - text});
+    char *kept = zeroed(tail - text + WIDE, 1);
+    locks.at[number - 1] = (part){memcpy(kept, text, tail - text), tail - text};
+    return number;
 }
 
 /* ---- 4: the locks that a thread holds, of those that the program has. The acquire of some tells a thread

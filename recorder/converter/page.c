@@ -138,17 +138,12 @@ void end_trace(const char *why) {
     if (!uses_file) cut_reason = why;
 }
 
-enum trace_step step_trace(u64 number) {
-    if (number <= span_last) return SPAN_GOES_ON;
+void step_trace(u64 number) {
+    if (number <= span_last || is_over()) return;
     if (span_last) {
         span_last = 0;
         into->at++;
-        return is_over() ? TRACE_ENDS : SPAN_ENDS;
-    }
-    if (is_over()) return TRACE_ENDS;
-    if (number < into->spans.at[into->at].first) return TRACE_PAUSES;
-    span_last = into->spans.at[into->at].last;
-    return SPAN_BEGINS;
+    } else if (number >= into->spans.at[into->at].first) span_last = into->spans.at[into->at].last;
 }
 
 void note_written(u64 number, u64 in_page) {

@@ -47,7 +47,7 @@ typedef struct {
     char name[THREAD_BYTES + WIDE];
     u32 name_length;
     uint8_t is_named;                  /* has it a name besides its number? */
-    uint8_t has_begun, is_forked, is_joined;                 /* in the trace (state.c) */
+    uint8_t has_begun, is_met;         /* has it events in the trace, or is it named there? */
     /* it grows with each event of the thread that could order another, and each trace */
     u64 epoch;
     u32 forked_by;                     /* plus one */

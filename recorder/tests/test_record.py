@@ -458,7 +458,8 @@ class Damaged(recorder.Case):
                                env={**os.environ, "ASAN_OPTIONS": "detect_leaks=0"})
         self.assertIn(answer.returncode, (0, 1, 2), answer.stderr[-2000:])
         if answer.returncode != 2:
-            recorder.places(answer.stdout)  # it is a trace that shb takes
+            listed = recorder.call(recorder.SHB, "places", "--list", input=answer.stdout)
+            self.assertRegex(listed.stderr, b"^(line [0-9]+: [a-z ]*(thread|lock)[a-z ]*\n)?$")
         self.assertIn(b"shb-std: ", answer.stderr)
         self.assertNotRegex(answer.stderr, b"Sanitizer|runtime error")
         return answer.returncode
@@ -498,7 +499,7 @@ class Damaged(recorder.Case):
         program.write_bytes(program.read_bytes().replace(b".debug_line_str", b".debug_line_xxx"))
         self.assertEqual(self.convert(converter, record), 0)
 
-    def test_what_no_trace_can_have_is_refused(self):
+    def test_what_no_trace_can_have_is_refused_by_shb(self):
         fork, start, join = (entry(0, "FORK", 1, 0x101), entry(1, "START", STACK, 0x500, 4096),
                              entry(0, "JOIN", 1, 0x103))
         write = entry(0, "WRITE", BLOCK, 0x104, 8), entry(1, "WRITE", BLOCK, 0x201, 8)
@@ -509,10 +510,10 @@ class Damaged(recorder.Case):
             record.write_bytes(HEADER + block + b"".join(entries))
             for options in ((), ("--list",)):
                 with self.subTest(reason, options=options):
-                    answer = recorder.convert(record, *options)
+                    trace = recorder.must(recorder.convert(record, *options)).stdout
+                    answer = recorder.call(recorder.SHB, "places", "--list", input=trace)
                     self.assertEqual(answer.returncode, 2)
-                    self.assertRegex(answer.stderr.decode(),
-                                     r"event \d+, \w+\|.*: a trace can't go on with this event")
+                    self.assertRegex(answer.stderr.decode(), fr"^line \d+: {reason}\n$")
 
     def test_a_number_that_is_used_again(self):
         """The next one that is forked with it is another thread: the one before was joined, or detached, or
