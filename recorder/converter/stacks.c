@@ -28,9 +28,6 @@
            store after a release fence is one with release. Of a fence with acquire the kind is fence, and
            NAME is empty. Of a page's trace only those within its spans. Behind ORDER " again": it stands for
            earlier ones of its kind too, which are omitted
-       crash THREAD TAB SIGNAL TAB ADDRESS TAB NODE
-           how the program ended, where a signal ended it that a thread's own code made; the address,
-           hexadecimal, is what it had no access to, or empty
        source NAME TAB PATH
            a source file, as locations name it, and where it was when it was compiled
        line LOCATION TAB SUM
@@ -507,24 +504,13 @@ void note_crash(u64 i) {
     crash.thread = thread_of(i);
     crash.is_met = 1;
     crash.node = file ? node_now(crash.thread, caller_of(i)) : 0;
-    keep_stack(crash.node);
-}
-
-static const char *signal_word(void) {
-    const char *word = sigabbrev_np(crash.signal);
-    return word ? word : "?";
-}
-
-static void write_crash(void) {
-    fprintf(file, "crash %s\tSIG%s\t", thread_name(crash.thread), signal_word());
-    if (crash.has_address) fprintf(file, "%lx", crash.address);
-    fprintf(file, "\t%u\n", crash.node);
 }
 
 /* On standard error: of the calls that have a line or a name. */
 void say_crash(void) {
     if (!crash.is_met) return;
-    fprintf(stderr, "shb-std: the program crashed: SIG%s", signal_word());
+    const char *word = sigabbrev_np(crash.signal);
+    fprintf(stderr, "shb-std: the program crashed: SIG%s", word ? word : "?");
     if (crash.has_address) fprintf(stderr, " at address 0x%lx", crash.address);
     fprintf(stderr, " in thread %s", thread_name(crash.thread));
     if (!crash.node) fprintf(stderr, ": %.*s", (int)place_of(crash.caller).length, place_of(crash.caller).at);
@@ -553,7 +539,6 @@ void end_stacks(void) {
     for (u32 b = 1; b <= block_count(); b++)
         if (block_of(b)->named && block_of(b)->node) fprintf(file, "block %u %u\n", b, block_of(b)->node);
     EACH(f, frees.at, frees.count) fprintf(file, "free %lu %lu\n", f->first, f->last);
-    if (crash.is_met) write_crash();
     write_names_in_blocks(lines);
     if (fclose(lines)) die("out of memory");
     fwrite(lines_text, 1, lines_bytes, file);

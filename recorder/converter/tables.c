@@ -153,12 +153,10 @@ static sums sums_of(const char *text, u64 length) {
     return s;
 }
 
-u32 map_bytes(map *m, const char *text, u64 length) {
-    sums s = sums_of(text, length);
+u32 map_text(map *m, const char *text) {
+    sums s = sums_of(text, strlen(text));
     return map_number(m, s.random, s.plain);
 }
-
-u32 map_text(map *m, const char *text) { return map_bytes(m, text, strlen(text)); }
 
 u32 map_find_bytes(const map *m, const char *text, u64 length) {
     sums s = sums_of(text, length);

@@ -45,8 +45,7 @@ u32 intern(map *numbers, u64 a, u64 b, void *array, u64 *capacity, size_t size);
 u32 map_find(const map *m, u64 a, u64 b);                    /* 0: it isn't there */
 u32 map_number(map *m, u64 a, u64 b);
 int map_adds(map *m, u64 a, u64 b);    /* the same; returns whether it is new */
-u32 map_bytes(map *m, const char *text, u64 length);         /* the same of a text, by two sums of it */
-u32 map_text(map *m, const char *text);
+u32 map_text(map *m, const char *text);                      /* the same of a text, by two sums of it */
 u32 map_find_bytes(const map *m, const char *text, u64 length);
 u64 mix(u64 a, u64 b);
 int by_number(const void *one, const void *other);           /* for qsort, of entries that begin with a u64 */

@@ -53,14 +53,9 @@ int follow(Dwarf_Die *die, unsigned attribute) {
 }
 
 int plain_type(Dwarf_Die *type) {
-    for (int steps = 0; steps < MOST_STEPS; steps++) {
-        int tag = dwarf_tag(type), is_only_named = tag == DW_TAG_typedef || tag == DW_TAG_const_type
-            || tag == DW_TAG_volatile_type
-            || tag == DW_TAG_atomic_type || tag == DW_TAG_restrict_type;
-        if (dwarf_hasattr(type, DW_AT_signature)) {
-            if (!follow(type, DW_AT_signature)) return 0;
-        } else if (!is_only_named) return 1;
-        else if (!follow(type, DW_AT_type)) return 0;
+    for (int steps = 0; steps < MOST_STEPS && !dwarf_peel_type(type, type); steps++) {
+        if (!dwarf_hasattr(type, DW_AT_signature)) return 1;
+        if (!follow(type, DW_AT_signature)) return 0;
     }
     return 0;
 }

@@ -47,9 +47,6 @@ class Crash(recorder.Case):
                 places = recorder.places(answer.stdout)
                 self.assertEqual({line for pair in places for line in pair},
                                  {f"crash.c:{n}" for n in self.racing()})
-                [facts] = re.findall(rb"(?m)^crash (.*)$", (self.folder / "stacks").read_bytes())
-                address = "40|0|[0-9a-f]+000" if "address" in said else ""
-                self.assertRegex(facts, rf"\AT1\.work\t{number.name}\t({address})\t\d+\Z".encode())
 
     @staticmethod
     def racing():
