@@ -81,11 +81,8 @@ void strip_folder(const char *folder); /* names of files below it are paths from
 void note_source(const char *path);
 /* a line "source NAME TAB PATH" for each file of the program's own, before any is added */
 void write_sources(FILE *file);
-
-/* texts.c: the text of the lines that frames are at. */
-void note_line(const char *location);
-/* of a source file; after all lines were noted */
-void write_sums(FILE *file, const char *name, const char *path);
+/* a line "line LOCATION TAB SUM" of the text there, if it can be read */
+void write_line_sum(FILE *file, const char *location, const char *path, u64 line);
 const char *source_name(const char *path);                   /* of one that was noted; it stands for good */
 int in_system(const char *path);       /* is it the system's or the compiler's? */
 int in_rust_library(const char *path);
@@ -107,7 +104,7 @@ int is_of_recorder(u64 caller);
 /* The frames of a place in the code, the innermost first; of inlined code there are several. */
 typedef struct inlined_frame {
     struct inlined_frame *outer;
-    const char *function, *location;
+    const char *function, *location, *path;                  /* path: null where there is no line */
     u32 number;                        /* in the file of stacks, or 0 */
     u32 line;                          /* or 0 */
     uint8_t in_rust_library;
@@ -132,7 +129,7 @@ int local_name(u64 function, u64 pc, u64 below, u64 above, u64 length, char *buf
 /* The same of what lies so far inside of a block of so many bytes, which the C++ library allocated by a call
    in the program's own code: "Account.balance". Returns the length of the type's name; 0 if the type isn't
    certain. */
-size_t name_in_block(u64 caller, u64 block_size, u64 offset, u64 length, char *buffer, size_t size);
+size_t name_in_block(u64 caller, u64 block_size, u64 offset, u64 length, char name[NAME_BYTES]);
 
 /* The same by an access: the block's size, the access's offset and length, or 0 if that isn't known, whether
    it writes, and what is asked for: an offset and a length. Returns also the begin and the size of the object

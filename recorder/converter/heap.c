@@ -157,8 +157,7 @@ static void find_names(void) {
     const u64 count = in_blocks.numbers.count;
     EACH(i, in_blocks.at, count) {
         const block *b = block_of(i->block);
-        i->type_length = name_in_block(allocated_by(i->block), b->size, i->at - b->at, i->length, name,
-                                       sizeof name);
+        i->type_length = name_in_block(allocated_by(i->block), b->size, i->at - b->at, i->length, name);
         if (i->type_length) i->name = copied(name);
         else ask_own(i);
     }

@@ -277,8 +277,15 @@ int is_variable(const char *name, size_t length) {
     return 0;
 }
 
+/* The name that an answer has: returns the length of its type's. */
+static size_t take_name(const answer *part, char name[NAME_BYTES]) {
+    if (part->one > strlen(part->first) || strlen(part->first) >= NAME_BYTES) return 0;
+    cleaned(strcpy(name, part->first));
+    return part->one;
+}
+
 /* Where a call's type isn't known it isn't asked for again: its blocks may be many. */
-size_t name_in_block(u64 caller, u64 block_size, u64 offset, u64 length, char *buffer, size_t size) {
+size_t name_in_block(u64 caller, u64 block_size, u64 offset, u64 length, char name[NAME_BYTES]) {
     static map untyped;
     inlined_frame *f = frames_of(caller);
     module *m = f && !f->in_system ? module_at(caller) : 0;
@@ -290,9 +297,7 @@ size_t name_in_block(u64 caller, u64 block_size, u64 offset, u64 length, char *b
         map_number(&untyped, caller, block_size);
         return 0;
     }
-    if (part.one > strlen(part.first) || strlen(part.first) >= size) return 0;
-    cleaned(strcpy(buffer, part.first));
-    return part.one;
+    return take_name(&part, name);
 }
 
 size_t name_by_use(u64 caller, const u64 use[6], char name[NAME_BYTES], u64 *begin, u64 *size) {
@@ -302,11 +307,9 @@ size_t name_by_use(u64 caller, const u64 use[6], char name[NAME_BYTES], u64 *beg
     memcpy(asked + 1, use, 6 * sizeof *use);
     if (!m || m->in_system || m->is_recorder || !ask_one(reader_of(m), ASK_USE, asked, 7, &part))
         return 0;
-    if (part.one > strlen(part.first) || strlen(part.first) >= NAME_BYTES) return 0;
     *begin = part.two >> 32;
     *size = (u32)part.two;
-    cleaned(strcpy(name, part.first));
-    return part.one;
+    return take_name(&part, name);
 }
 
 int local_name(u64 function, u64 pc, u64 below, u64 above, u64 length, char *buffer, size_t size) {
@@ -364,12 +367,6 @@ static char *location_of(const char *path, u64 line) {
     return copied(cleaned(length > PLACE_BYTES ? text + length - PLACE_BYTES : text));
 }
 
-static inlined_frame *new_frame(const char *function, const char *location, u64 line) {
-    inlined_frame *f = zeroed(1, sizeof *f);
-    *f = (inlined_frame){.function = function, .location = location, .line = line};
-    return f;
-}
-
 /* A function's name without what the compiler adds for its parts and copies: "f.cold", "f(int)
    [clone .part.0]". */
 static char *function_part(char *name) {
@@ -385,8 +382,9 @@ static char *function_part(char *name) {
 static inlined_frame *frame_of(const module *m, const answer *a) {
     int is_named = a->two || !m->in_system;            /* else the name may be a neighbour's */
     u64 line = *a->second && a->two < UINT32_MAX ? a->two : 0;
-    inlined_frame *f = new_frame(is_named ? cleaned(function_part(copied(a->first))) : "",
-                                 line ? copied(a->second) : 0, line);
+    inlined_frame *f = zeroed(1, sizeof *f);
+    *f = (inlined_frame){.function = is_named ? cleaned(function_part(copied(a->first))) : "", .line = line,
+                         .path = line ? copied(a->second) : 0};
     if (line && !m->is_late) note_source(a->second);
     f->in_system = m->in_system;
     f->in_rust_library = line && in_rust_library(a->second);
@@ -492,7 +490,7 @@ static void find_place(place *p) {
     module *m = module_at(p->caller);
     inlined_frame *chosen = 0;
     for (inlined_frame *f = p->frames; f; f = f->outer) {
-        f->location = f->line ? location_of(f->location, f->line) : address_place(p->caller);
+        f->location = f->line ? location_of(f->path, f->line) : address_place(p->caller);
         if (f->line && !f->in_system_file) name_lambda(f);
         if (f->line && (!chosen || (chosen->in_system_file && !f->in_system_file))) chosen = f;
     }
@@ -505,7 +503,8 @@ static void find_place(place *p) {
     p->is_unseen = last && last->in_rust_library && !is_hooked(m, p->caller);
     has_unseen |= p->is_unseen;
     if (p->frames) return;
-    p->frames = new_frame("", p->text, 0);
+    p->frames = zeroed(1, sizeof *p->frames);
+    *p->frames = (inlined_frame){.function = "", .location = p->text};
     p->frames->in_system = p->frames->in_system_file = m && m->in_system;
 }
 

@@ -121,8 +121,22 @@ void write_sources(FILE *file) {
         const char *path = sources.at[k];
         if (in_system(path) || strpbrk(path, "\t\n")) continue;
         fprintf(file, "source %s\t%s\n", source_name(path), path);
-        write_sums(file, source_name(path), path);
     }
+}
+
+static int is_blank(char byte) { return byte == ' ' || (byte >= '\t' && byte <= '\r'); }
+
+/* So a line that was changed is known as another one by whoever sees traces of both, and nothing that stands
+   in a file is told. Blanks at the ends don't count. */
+void write_line_sum(FILE *file, const char *location, const char *path, u64 line) {
+    u64 length, sum = 0;
+    const char *at = line_of(path, line, &length);
+    if (!at) return;
+    const char *end = at + length;
+    while (at < end && is_blank(*at)) at++;
+    while (end > at && is_blank(end[-1])) end--;
+    while (at < end) sum = mix(sum, (uint8_t)*at++ + 1);
+    fprintf(file, "line %s\t%016lx\n", location, sum);
 }
 
 void strip_folder(const char *folder) {

@@ -55,10 +55,7 @@ static const char *path;
 static u64 told_way, has_way;          /* of which record; the passes pass over some */
 static VECTOR(context) contexts;
 static INTERNED(node) nodes;
-static u64 nodes_written;
-typedef struct { u64 first, last; } events_of_free;
-static VECTOR(events_of_free) frees;
-static FILE *lines;                    /* of atomics and locals, in memory */
+static FILE *lines;                    /* of atomics, locals and frees, in memory */
 static char *lines_text;
 static size_t lines_bytes;
 static u64 told_place;
@@ -365,7 +362,6 @@ void keep_stack(u32 number) {
 void stack_of_event(u32 number) {
     if (!with_stacks) return;
     if (fwrite_unlocked(&number, sizeof number, 1, file) != 1) cannot_write(path);
-    nodes_written++;
     keep_stack(number);
 }
 
@@ -408,8 +404,7 @@ void note_fence(u64 i) {
 }
 
 void note_free(u64 first, u64 last) {
-    if (!with_stacks || first > last) return;
-    *PUSH(frees) = (events_of_free){first, last};
+    if (with_stacks && first <= last) fprintf(lines, "free %lu %lu\n", first, last);
 }
 
 /* ---- the tables ---- */
@@ -417,7 +412,7 @@ static u32 frame_number(inlined_frame *f) {
     static u32 frame_count;
     if (f->number) return f->number;
     fprintf(file, "%s %s\t%s\n", f->in_system_file ? "system-frame" : "frame", f->function, f->location);
-    if (!f->in_system_file && f->line) note_line(f->location);
+    if (!f->in_system_file && f->line) write_line_sum(file, f->location, f->path, f->line);
     return f->number = ++frame_count;
 }
 
@@ -538,15 +533,14 @@ void end_stacks(void) {
         if (threads[t].created_at) fprintf(file, "thread %s\t%u\n", thread_name(t), threads[t].created_at);
     for (u32 b = 1; b <= block_count(); b++)
         if (block_of(b)->named && block_of(b)->node) fprintf(file, "block %u %u\n", b, block_of(b)->node);
-    EACH(f, frees.at, frees.count) fprintf(file, "free %lu %lu\n", f->first, f->last);
     write_names_in_blocks(lines);
     if (fclose(lines)) die("out of memory");
     fwrite(lines_text, 1, lines_bytes, file);
     write_sources(file);
-    if (!has_calls && nodes_written)
+    if (!has_calls && written)
         fprintf(stderr, "shb-std: no call stacks are known: the program was recorded with SHB_STACKS=0, or "
                                                "compiled without hooks of functions\n");
     rewind(file);
-    fprintf(file, STACKS_BEGIN, nodes_written);
+    fprintf(file, STACKS_BEGIN, written);
     if (fflush(file) || ferror(file) || fclose(file)) cannot_write(path);
 }

@@ -1,4 +1,4 @@
-/* Arrays that grow, and maps. */
+/* Arrays that grow, maps, and lines of source files. */
 #define _GNU_SOURCE
 #include <errno.h>
 #include <fcntl.h>
@@ -44,19 +44,6 @@ char *copied(const char *text) {
     char *copy = strdup(text);
     if (!copy) die("out of memory");
     return copy;
-}
-
-/* A device or FIFO may have no end. */
-char *text_of(const char *path, u64 *size) {
-    enum { MOST_BYTES = 64 << 20 };
-    struct stat status;
-    int f = open(path, O_RDONLY | O_NONBLOCK | O_CLOEXEC);
-    int is_text = f >= 0 && !fstat(f, &status) && S_ISREG(status.st_mode) && status.st_size <= MOST_BYTES;
-    char *text = zeroed(is_text ? status.st_size + 1 : 1, 1);
-    ssize_t length = is_text ? read(f, text, status.st_size) : 0;
-    if (f >= 0) close(f);
-    *size = length > 0 ? length : 0;
-    return text;
 }
 
 void *mapped(size_t count, size_t size) {
@@ -161,4 +148,35 @@ u32 map_text(map *m, const char *text) {
 u32 map_find_bytes(const map *m, const char *text, u64 length) {
     sums s = sums_of(text, length);
     return map_find(m, s.random, s.plain);
+}
+
+/* ---- lines of source files ---- */
+/* A source file: its text, and where each line begins, and the last one ends. */
+typedef struct { char *text; VECTOR(u64) begins; } source;
+
+/* A device or FIFO may have no end. */
+static source read_source(const char *path) {
+    enum { MOST_BYTES = 64 << 20 };
+    struct stat status;
+    int f = open(path, O_RDONLY | O_NONBLOCK | O_CLOEXEC);
+    int is_text = f >= 0 && !fstat(f, &status) && S_ISREG(status.st_mode) && status.st_size <= MOST_BYTES;
+    source s = {.text = zeroed(is_text ? status.st_size + 1 : 1, 1)};
+    ssize_t length = is_text ? read(f, s.text, status.st_size) : 0;
+    if (f >= 0) close(f);
+    *PUSH(s.begins) = 0;
+    for (ssize_t k = 0; k < length; k++)
+        if (s.text[k] == '\n' || k + 1 == length) *PUSH(s.begins) = k + 1;
+    return s;
+}
+
+const char *line_of(const char *path, u64 number, u64 *length) {
+    static map numbers;
+    static VECTOR(source) sources;
+    u32 met = map_text(&numbers, path);
+    if (met > sources.count) *PUSH(sources) = read_source(path);
+    const source *s = &sources.at[met - 1];
+    if (!number || number >= s->begins.count) return 0;
+    const char *line = s->text + s->begins.at[number - 1], *end = s->text + s->begins.at[number];
+    *length = end - line - (end[-1] == '\n');
+    return line;
 }

@@ -14,7 +14,6 @@ void die(const char *format, ...) __attribute__((noreturn, format(printf, 1, 2))
 void cannot_write(const char *path) __attribute__((noreturn));
 void *zeroed(size_t count, size_t size);
 char *copied(const char *text);
-char *text_of(const char *path, u64 *size);                  /* of a regular file, with an end; else "" */
 void *mapped(size_t count, size_t size);                     /* what isn't used of it takes addresses alone */
 void *grown(void *array, u64 count, u64 *capacity, size_t size);
 /* An array that grows. PUSH points to a new entry at its end, which has to be written. */
@@ -47,5 +46,7 @@ u32 map_number(map *m, u64 a, u64 b);
 int map_adds(map *m, u64 a, u64 b);    /* the same; returns whether it is new */
 u32 map_text(map *m, const char *text);                      /* the same of a text, by two sums of it */
 u32 map_find_bytes(const map *m, const char *text, u64 length);
+/* Of a file, from 1, without an end; 0 where there is none. A file is read once. */
+const char *line_of(const char *path, u64 number, u64 *length);
 u64 mix(u64 a, u64 b);
 int by_number(const void *one, const void *other);           /* for qsort, of entries that begin with a u64 */

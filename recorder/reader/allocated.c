@@ -6,31 +6,10 @@
 #include <string.h>
 #include "debug.h"
 
-/* A source file: its text, and where each line begins. */
-typedef struct { char *text; VECTOR(u64) begins; } source;
-
-static source read_source(const char *path) {
-    u64 size;
-    source s = {.text = text_of(path, &size)};
-    for (char *at = s.text, *end; (end = strchr(at, '\n')); at = end + 1) *PUSH(s.begins) = at - s.text;
-    return s;
-}
-
-/* Each is read once: a page may have many lines of it. */
-static const source *source_of(const char *path) {
-    static map numbers;
-    static VECTOR(source) sources;
-    u32 number = map_text(&numbers, path);
-    if (number > sources.count) *PUSH(sources) = read_source(path);
-    return &sources.at[number - 1];
-}
-
 int read_line(const char *path, int number, char *line) {
-    const source *s = source_of(path);
-    if (number < 1 || (u64)number > s->begins.count) return 0;
-    const char *begin = s->text + s->begins.at[number - 1];
-    size_t length = strcspn(begin, "\n");
-    if (length >= LINE_BYTES) return 0;
+    u64 length;
+    const char *begin = line_of(path, number, &length);
+    if (!begin || length >= LINE_BYTES) return 0;
     memcpy(line, begin, length);
     line[length] = 0;
     char quote = 0;
