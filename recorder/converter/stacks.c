@@ -175,7 +175,9 @@ static void enter(thread_calls *s, u32 number) {
 void note_call(u64 i) {
     if (operation_of(i) == OP_CONTEXT) threads[thread_of(i)].calls.told = context_of(i);
     if (operation_of(i) == OP_CONTEXT || operation_of(i) == OP_PLACE) return;
-    note_caller(caller_of(i));
+    /* A library of the system that calls an outermost function isn't shown. */
+    int is_shown = operation_of(i) != OP_FRAME || size_of(i) || !is_of_system(caller_of(i));
+    if (is_shown) note_caller(caller_of(i));
     if (operation_of(i) != OP_FRAME) return;
     has_calls = 1;
     note_frame(i);
