@@ -61,7 +61,7 @@ exec REAL "$@"
         trace = self.file(events.encode())
         status, out, err = run_here(["--all", "--shb", self.fake(script), trace])
         self.assertEqual((status, err), (0, ""))
-        self.assertEqual(log.read_text().splitlines(), ["races --list"])
+        self.assertEqual(log.read_text().splitlines(), ["races --list", "places --list"])
         self.assertEqual(out.splitlines()[-1], "No schedules were made, since they would take over 100 MB.")
         self.assertIn("No schedule of this race is at hand: events are shown in the order of the trace.", out)
         self.assertNotIn("come next", out)

@@ -22,7 +22,7 @@ from shb_common import progress
 from shb_common.uses import Uses
 from shb_view import command, view
 from shb_view.analyser import Verdict
-from shb_view.groups import Gathered, place_of
+from shb_view.groups import Gathered
 from shb_view.trace import Trace
 
 MADE = 150  # traces
@@ -46,9 +46,9 @@ def sections(text, report, is_good=True):
 def gathered_of(file):
     """The races of an open report that has all of them."""
     gathered, report = Gathered(), Report(file)
-    for race, accesses in report.races():
-        gathered.share(race, *accesses)
-        gathered.add(race, place_of(accesses), report.places.get(place_of(accesses), 0))
+    for race in report.races():
+        gathered.share(race)
+        gathered.add(race, report.places.get(race.place, 0))
     return gathered
 
 

@@ -16,8 +16,8 @@ HEAD, FULL, LIST = ["races", "--list"], ["places"], ["places", "--list"]
 VARIABLES, LIST_VARIABLES = [*FULL, "--variables"], [*LIST, "--variables"]
 REFUSED = 2         # the status of `shb` for a refused trace
 
-# A place of a trace: its two locations, that of the first access first; by variable a race of it, as
-# `variables.Found`; and whether it has more variables than these.
+# A place of a trace: its two locations, that of the first access first; by variable a race of it; and whether
+# it has more variables than these.
 Place = collections.namedtuple("Place", "first second variables has_more")
 
 
@@ -86,14 +86,13 @@ def words_in(said):
 def places_in(races):
     """The places of races of each variable at each place, each with its first so many variables."""
     found, more = {}, set()
-    for race, accesses in races:
-        place, name = tuple(access.location for access in accesses), accesses[0].name
-        by_variable = found.setdefault(place, {})
+    for race in races:
+        name, by_variable = race.accesses[0].name, found.setdefault(race.place, {})
         if name in by_variable:
             raise BadReport(
                 f"race {race.number} of the report: its variable has a race at this place already")
         if len(by_variable) == variables.MOST_VARIABLES:
-            more.add(place)
+            more.add(race.place)
         else:
-            by_variable[name] = variables.Found((race.first, race.second), accesses)
+            by_variable[name] = race
     return [Place(*place, by_variable, place in more) for place, by_variable in found.items()]

@@ -2,7 +2,6 @@
 
 import contextlib
 import os
-import pathlib
 import stat
 import tempfile
 
@@ -39,14 +38,18 @@ def temporary_file(folder):
     finally:
         with contextlib.suppress(OSError):
             file.close()    # fails again where the disk is full
-        with contextlib.suppress(FileNotFoundError):
-            os.unlink(path)
+        remove(path)
+
+
+def remove(path):
+    """Deletes a file, if it is there."""
+    with contextlib.suppress(FileNotFoundError):
+        os.unlink(path)
 
 
 def put(path, text, room=None):
     """Puts a file in place whole; `room` is a folder of the same file system (the file's own by default)."""
-    path = pathlib.Path(path)
-    with temporary_file(room or path.absolute().parent) as (file, new):
+    with temporary_file(room or os.path.dirname(os.path.abspath(path))) as (file, new):
         file.write(text)
         file.flush()
         put_file(new, path)
@@ -56,5 +59,5 @@ def put_file(new, path):
     mask = os.umask(0)
     os.umask(mask)
     os.chmod(new, 0o666 & ~mask)
-    pathlib.Path(path).parent.mkdir(parents=True, exist_ok=True)
+    os.makedirs(os.path.dirname(os.path.abspath(path)), exist_ok=True)
     os.replace(new, path)

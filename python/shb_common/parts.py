@@ -11,6 +11,12 @@ def part(*paths):
     return next(filter(os.path.exists, places), places[0])
 
 
+def part_of_page(name):
+    """The style or the script of pages."""
+    with open(os.path.join(HOME, "shb_view", name), encoding="utf-8") as file:
+        return file.read()
+
+
 ANALYSER = part("../bin/shb", "../../bin/shb")
 NO_ANALYSER = ("there is no analyser at {}; in a checkout `make build` makes it, "
                "and SHB=PROGRAM names another").format

@@ -11,7 +11,7 @@ from shb_common.limits import LINE_ROOM, MOST_LINE
 from shb_common.words import printable
 
 NUMBER = re.compile(rb"[0-9]{1,20}")
-ACCESS = re.compile(rb"(([^\n|]+)\|([rw])\(([^\n|]+)\)(?:\|([^\n]*))?)\n")
+ACCESS = re.compile(rb"([^\n|]+)\|([rw])\(([^\n|]+)\)(?:\|([^\n]*))?\n")
 SCHEDULE = re.compile(rb"schedule (0|[1-9][0-9]{0,19}):")
 MOST_EVENTS = 1_000     # of a schedule that is given as a list
 LONGEST = 60        # columns of a line that a refusal shows
@@ -21,9 +21,6 @@ Counts = collections.namedtuple("Counts", "events threads locks variables")  # w
 # The fields of an access's line. `name` is that of the variable.
 Access = collections.namedtuple("Access", "thread word name location")
 
-# A race of a report. `schedule` is where its schedule begins in the file, or None.
-Race = collections.namedtuple("Race", "number first second first_line second_line schedule")
-
 # How many events a schedule has, and which; None of more than MOST_EVENTS.
 Schedule = collections.namedtuple("Schedule", "length events")
 
@@ -32,9 +29,21 @@ class BadReport(Exception):
     """The words say what is wrong with a report."""
 
 
-def race_of(events, accesses):
-    """A race without a number that has these events and their accesses."""
-    return Race(0, *events, *(b"%b|%b(%b)|%b" % access for access in accesses), None)
+class Race(collections.namedtuple("Race", "number events accesses schedule")):
+    """A race of a report: its two events, the earlier first, and their accesses. `schedule` is where its
+    schedule begins in the file, or None."""
+
+    __slots__ = ()
+
+    @property
+    def place(self):
+        one, other = self.accesses
+        return one.location, other.location
+
+    @property
+    def threads(self):
+        one, other = self.accesses
+        return one.thread, other.thread
 
 
 class Lines:
@@ -90,26 +99,23 @@ class Lines:
         return races, self.location(b"at ", "at LOCATION"), self.location(b"and ", "and LOCATION")
 
     def accesses(self, number, first, second, events):
-        """The lines of two accesses that conflict, each with its fields: those of the race with this number,
-        of these events of so many."""
-        first_line, one = self.access(b"first ", "first ACCESS")
-        second_line, other = self.access(b"second ", "second ACCESS")
+        """Two accesses that conflict: those of the race with this number, of these events of so many."""
+        one, other = self.access(b"first ", "first ACCESS"), self.access(b"second ", "second ACCESS")
         if not 0 < first < second <= events:
             raise BadReport(f"race {number} of the report: {first} and {second} aren't two events of the "
                             "trace, the earlier first")
         if one.name != other.name or one.thread == other.thread or b"w" not in (one.word, other.word):
             raise BadReport(f"race {number} of the report: the events {first} and {second} don't conflict")
-        return (first_line, one), (second_line, other)
+        return one, other
 
     def access(self, word, form):
-        """What follows a word in the next line, an access, with its fields."""
+        """What follows a word in the next line, an access."""
         line = self.line
         match = None if line in self.known else ACCESS.fullmatch(line, len(word))
         if match:
             if len(self.known) == MOST_KNOWN:
                 self.known.clear()
-            access, *fields, location = match.groups()
-            self.known[line] = access, Access(*fields, location or b"")
+            self.known[line] = Access(*match.groups(b""))
         self.take(line in self.known and line.startswith(word), form)
         return self.known[line]
 
@@ -164,18 +170,18 @@ class Report:
         return found
 
     def races(self):
-        """The races, one after the other, each with its two accesses; with the last the rest is read."""
+        """The races, one after the other; with the last the rest is read."""
         places, left, are_same = iter(self.places.items()), {}, True
         for number in range(1, self.count + 1):
-            race, accesses = self.read_race(number)
-            place = accesses[0].location, accesses[1].location
+            race = self.read_race(number)
+            place = race.place
             if place not in left:   # the first race of the next one
                 following, left[place] = next(places, (None, 0))
                 are_same = are_same and following == place
             left[place] -= 1
             if not left[place]:
                 del left[place]
-            yield race, accesses
+            yield race
         self.lines.end()
         if left or not are_same or next(places, None):
             raise BadReport("the places that the report begins with aren't those of its races")
@@ -183,11 +189,10 @@ class Report:
     def read_race(self, number):
         first, second = self.lines.numbered(b"race %d: %d %d\n", number, "race {}: I J")
         accesses = self.lines.accesses(number, first, second, self.counts.events)
-        (first_line, one), (second_line, other) = accesses
         if number == 1:
             self.has_schedules = self.lines.line.startswith(b"schedule ")
         schedule = self.lines.pass_schedule() if self.has_schedules else None
-        return Race(number, first, second, first_line, second_line, schedule), (one, other)
+        return Race(number, (first, second), accesses, schedule)
 
 
 def in_order(file, race, events):

@@ -5,7 +5,6 @@ import functools
 import os
 import posixpath
 import re
-import urllib.parse
 
 from shb_common import known, version
 from shb_common.locations import line_of, parts_of
@@ -65,9 +64,11 @@ class Here:
     """The files of the repository that the working folder is in; without one, those below that folder."""
 
     def __init__(self, folder):
-        folders = [folder, *folder.parents]
         self.read = functools.lru_cache(maxsize=64)(read_lines)
-        self.top = os.fsencode(next((one for one in folders if (one / ".git").exists()), folder)) + b"/"
+        top = folder
+        while top != "/" and not os.path.exists(f"{top}/.git"):
+            top = os.path.dirname(top)
+        self.top = os.fsencode(folder if top == "/" else top) + b"/"
 
     def find(self, path, compiled=b""):
         """The path from the top of a file that was compiled from this one; None of one elsewhere."""
@@ -93,10 +94,13 @@ def place_of(name, sources, compiled=b""):
 
 def uri_of(path, base):
     """A file name as a URI reference; a relative one counts from a base."""
-    quoted = urllib.parse.quote_from_bytes(posixpath.normpath(path), safe="/")
+    path = posixpath.normpath(path)
+    if not re.fullmatch(rb"[\w./~-]*", path):
+        import urllib.parse  # takes its time, and most paths do without
+        path = urllib.parse.quote_from_bytes(path, safe="/").encode()
     if path.startswith(b"/"):
-        return {"uri": "file://" + quoted.replace("//", "/", 1)}
-    return {"uri": quoted, "uriBaseId": base}
+        return {"uri": "file://" + path.decode().replace("//", "/", 1)}
+    return {"uri": path.decode(), "uriBaseId": base}
 
 
 def location_of(place, **more):

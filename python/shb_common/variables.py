@@ -1,14 +1,10 @@
 """The variables of the races at each place."""
 
-import collections
 import re
 
 # A member of a block's type, followed by the block if a trace has several of the type.
 IN_BLOCK = re.compile(rb"(.+?) of .+(?::[0-9]+|\+0x[0-9a-f]+)#[0-9]+", re.S)
 MOST_VARIABLES = 1_000  # of a place, that are kept
-
-# A race of a place with this variable: its events, and their accesses.
-Found = collections.namedtuple("Found", "events accesses")
 
 
 def without_end(line):
@@ -24,9 +20,9 @@ def atomic_of(first, second):
     return base if base and thread == write.thread else None
 
 
-def variable_of(found):
+def variable_of(race):
     """The variable of a race: an atomic is one, whatever its writers' names."""
-    return atomic_of(*found.accesses) or found.accesses[0].name
+    return atomic_of(*race.accesses) or race.accesses[0].name
 
 
 def without_block(name):
@@ -41,5 +37,5 @@ def local_name(variable, events, local_of):
     return without_block(names.pop()) or variable if len(names) == 1 else variable
 
 
-def name_of(found, local_of):
-    return local_name(variable_of(found), found.events, local_of)
+def name_of(race, local_of):
+    return local_name(variable_of(race), race.events, local_of)

@@ -1,11 +1,11 @@
 """Which version a command is of."""
 
 import os
-import pathlib
 import subprocess
 
-HERE = pathlib.Path(__file__).resolve()
-FILE = HERE.parents[1] / "VERSION"      # the installation puts it there
+from shb_common.parts import HOME
+
+FILE = os.path.join(HOME, "VERSION")      # the installation puts it there
 # as the installation writes them
 DAY_AND_COMMIT = "--abbrev=12", "--date=format-local:%Y.%m.%d", "--format=%cd-%h"
 
@@ -13,7 +13,8 @@ DAY_AND_COMMIT = "--abbrev=12", "--date=format-local:%Y.%m.%d", "--format=%cd-%h
 def installed():
     """The day and the commit of what is installed; None in a checkout."""
     try:
-        return FILE.read_text().strip()
+        with open(FILE, encoding="utf-8") as file:
+            return file.read().strip()
     except FileNotFoundError:
         return None
 
@@ -31,7 +32,7 @@ def version():
 def of_git(*words):
     """What git says of the checkout; nothing if it doesn't know it."""
     try:
-        ran = subprocess.run(["git", "--no-optional-locks", "-C", HERE.parents[2], *words],
+        ran = subprocess.run(["git", "--no-optional-locks", "-C", os.path.dirname(HOME), *words],
                              env={**os.environ, "TZ": "UTC"},
                              stdin=subprocess.DEVNULL, stdout=subprocess.PIPE, stderr=subprocess.DEVNULL)
     except OSError:

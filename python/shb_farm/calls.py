@@ -81,12 +81,12 @@ def accesses_in(report, pairs, path):
         read = Report(file)
         calls = stacks.Stacks(path, read.counts.events)
         found = {}
-        for race, accesses in read.races():
-            place = known.pair_of(*(access.location for access in accesses))
+        for race in read.races():
+            place = known.pair_of(*race.place)
             if place in pairs and place not in found:
                 found[place] = tuple(
-                    Access(*line.split(b"|")[:2], calls.of_event(number), calls.sources)
-                    for number, line in ((race.first, race.first_line), (race.second, race.second_line)))
+                    Access(one.thread, b"%b(%b)" % (one.word, one.name), calls.of_event(event), calls.sources)
+                    for event, one in zip(race.events, race.accesses))
     return found
 
 

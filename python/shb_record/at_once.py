@@ -16,6 +16,7 @@ from shb_common.children import adopt_orphans
 from shb_common.standard import tell
 from shb_common.stops import STOPS
 from shb_common.words import Refused
+from shb_record.parts import files_in
 from shb_record.running import WATCHED, Run, children
 
 
@@ -96,8 +97,8 @@ def outcomes(options, folder, look=None):
             yield outcome if outcome.stop else outcome._replace(stop=stop, stopped=stopped)
     finally:
         end(workers)
-        for path in (path for worker in workers for path in folder.glob(f"run{worker.number}.*")):
-            path.unlink()
+        for path in (path for worker in workers for path in files_in(folder, f"run{worker.number}.*")):
+            os.unlink(path)
 
 
 def wait_for_first(workers):

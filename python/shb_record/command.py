@@ -5,7 +5,6 @@ import contextlib
 import errno
 import itertools
 import os
-import pathlib
 import shlex
 import shutil
 import signal
@@ -130,8 +129,8 @@ def arguments(words):
     if not found.words:
         parser.error("no program is named")
     found.program, *found.arguments = found.words
-    found.folder = pathlib.Path(found.folder or os.path.basename(found.program) + ".shb").absolute()
-    if "%p" in str(found.folder) or "%s" in str(found.folder):
+    found.folder = os.path.abspath(found.folder or os.path.basename(found.program) + ".shb")
+    if "%p" in found.folder or "%s" in found.folder:
         parser.error("the folder of the results can't have %p or %s in its name")
     if found.live and (found.replay or found.keep):
         parser.error("--live keeps no records and no order of turns: it isn't for --keep or --replay")
@@ -192,7 +191,8 @@ def record(options):
     results = Results(options.folder, shlex.join([options.program, *options.arguments]).replace("\n", "\\n"),
                       options.replay)
     if options.replay:
-        (results.work / REPLAYED).write_bytes(options.turns.content)
+        with open(f"{results.work}/{REPLAYED}", "wb") as file:
+            file.write(options.turns.content)
     stops = Stops("shb-record: {}: what was recorded is still shown; another one ends at once, and keeps the "
                   "record\n".format, options.show)
     adopt_orphans()
@@ -214,7 +214,8 @@ def record(options):
         is_recorded = bool(look.runs) or results.has_more()
         if is_recorded:
             for name, text in tables_of(look, rows, status).items():
-                results.tables[name].write_bytes(text)
+                with open(results.tables[name], "wb") as file:
+                    file.write(text)
         results.close(is_recorded)
     if is_recorded:
         conclude(look, rows, status)

@@ -2,19 +2,21 @@
 
 import collections
 import itertools
+import os
 import re
 import shutil
 import signal
 from subprocess import PIPE
 
-from shb_common.analyser import Run
+from shb_common.analyser import LIST_VARIABLES, Run, places_in
 from shb_common.children import apart
+from shb_common.files import remove
+from shb_common.report import BadReport, Report
 from shb_common.stacks import BadStacks, Stacks
 from shb_common.sums import sha256
 from shb_common.uses import BadUses, Uses
 from shb_common.words import Refused, counted
-from shb_record.parts import CONVERTER
-from shb_record.listing import Contradiction
+from shb_record.parts import ANALYSER, CONVERTER, files_in
 
 CUTS = "the recording is not the whole run: ", "the trace is cut "
 KILLED = CUTS[0] + "the program was killed"
@@ -32,6 +34,10 @@ class Process(collections.namedtuple("Process", "name base command record module
     to be replayed. Of a segment of a record `blocks` is the file of the blocks that are there when it
     begins."""
 
+    def beside(self, ending):
+        """The path of a file beside the record."""
+        return os.path.splitext(self.record)[0] + ending
+
     @property
     def program(self):
         return self.modules[0] if self.modules else b""
@@ -47,16 +53,15 @@ class Records:
 
     def left(self, number):
         """What was recorded in this run, by the numbers of processes, which are looked at together."""
-        def numbers(path):
-            return [int(text) for text in re.findall(r"\d+", path.name)]
-
-        found = [process_of(record, f"run {number}, process {record.name.split('.')[1]}", record.stem)
-                 for record in sorted(self.folder.glob(f"run{number}.*.rec"), key=numbers)]
+        records = {os.path.basename(path)[:-len(".rec")]: path
+                   for path in files_in(self.folder, f"run{number}.*.rec")}
+        found = [process_of(records[base], f"run {number}, process {base.split('.')[1]}", base)
+                 for base in sorted(records, key=lambda base: list(map(int, re.findall(r"\d+", base))))]
         return [found] if found else []
 
     def release(self, process):
         """Deletes a record that was looked at, and isn't kept."""
-        process.record.unlink(missing_ok=True)
+        remove(process.record)
 
     def counts(self, _events, _passed):
         return ()
@@ -88,11 +93,52 @@ def replay_in(header):
 def check_room(process, most_events):
     """A page's trace has so many events at most. In measured programs at most a tenth of the record's entries
     have a line."""
-    needed = min(process.record.stat().st_size // 2, most_events * LINE_BYTES)
-    free = shutil.disk_usage(process.record.parent).free
+    needed = min(os.path.getsize(process.record) // 2, most_events * LINE_BYTES)
+    free = shutil.disk_usage(process.record).free
     if needed > free:
         raise Refused(f"{process.name}: its page may take about {needed:,} bytes of the disk, and {free:,} "
                       "are free; --window makes a smaller one")
+
+
+class Contradiction(Refused):
+    """A check failed: the parts of this command don't fit each other."""
+
+
+class Listing:
+    """A running `shb places --list`, which reads from a pipe and writes to the open file `text`. `descriptor`
+    is where the trace is to be written; it ends when whoever was started with it has ended, and `begun` was
+    called."""
+
+    def __init__(self, text):
+        self.text = text
+        self.races, self.counts = [], None  # of the run, when all is read, as a `Report` has them
+        reading, self.descriptor = os.pipe()
+        with open(reading, "rb") as pipe:
+            self.run = Run([ANALYSER, *LIST_VARIABLES], pipe, self.text, **apart())
+
+    def begun(self):
+        os.close(self.descriptor)
+        self.descriptor = None
+
+    def close(self):
+        """Ends what still runs, and lets go of what it wrote."""
+        if self.descriptor is not None:
+            self.begun()
+        self.run.close()
+        self.text.close()
+
+    def places(self):
+        """The places of the run, with their variables, when all is read."""
+        answer = self.run.answer()
+        if answer.status:
+            raise Refused(f"`shb places --list` ended with status {answer.status}: {answer.words}")
+        self.text.seek(0)
+        try:
+            report = Report(self.text)
+            self.races, self.counts = list(report.races()), report.counts
+            return places_in(self.races)
+        except BadReport as fault:
+            raise Contradiction(f"`shb places --list` wrote no whole report: {fault}") from None
 
 
 class Conversion:
@@ -102,11 +148,11 @@ class Conversion:
 
     def __init__(self, process, options):
         self.process = process
-        self.trace, self.place_list, self.uses, self.stacks = (
-            process.record.with_suffix(suffix) for suffix in (".std", ".places", ".uses", ".stacks"))
+        self.trace, self.place_list, self.uses, self.stacks = map(
+            process.beside, (".std", ".places", ".uses", ".stacks"))
         strip = ["--strip", options.strip] if options.strip else []
         blocks = ["--blocks", process.blocks] if process.blocks else []
-        left = ["--left", process.record.with_suffix(".left")] if options.live else []  # blocks at its end
+        left = ["--left", process.beside(".left")] if options.live else []  # blocks at its end
         self.window = options.window
         self.list_words = [CONVERTER, "--list", *strip, *blocks, process.record]
         self.page_words = [*strip, *blocks, "-n", str(options.window), process.record]

@@ -5,8 +5,10 @@ import contextlib
 import os
 import re
 
+from shb_common.files import remove
 from shb_common.words import counted
 from shb_record.converting import process_of
+from shb_record.parts import files_in
 
 ENDED_AT, ENDED_BYTES = 65280, 256  # of a record's header: how it ended, as record.h has it
 WHOLE = re.compile(rb"whole [0-9a-f]+ [0-9a-f]+\0")
@@ -24,9 +26,9 @@ class Segments:
     def files(self):
         """The segments that are there, those that were written to last at the end."""
         found = []
-        for path in self.folder.glob("run1.*.rec"):
+        for path in files_in(self.folder, "run1.*.rec"):
             try:
-                found.append((path.stat().st_mtime_ns, segment_of(path), path))
+                found.append((os.stat(path).st_mtime_ns, segment_of(path), path))
             except FileNotFoundError:
                 pass  # the recorder has dropped it
         return [path for _, _, path in sorted(found)]
@@ -41,16 +43,16 @@ class Segments:
 
     def taken(self, path):
         """A segment, if it is still there, so that the recorder doesn't drop it any more."""
-        taken = path.with_suffix(".taken")
+        taken = os.path.splitext(path)[0] + ".taken"
         try:
-            path.rename(taken)
+            os.rename(path, taken)
         except FileNotFoundError:
             return None
         base, segment = self.counted(path)
-        blocks = self.folder / f"{base}.blocks"
         process = process_of(taken, f"run 1, process {base.split('.')[1]}, segment {segment}",
                              f"{base}.{segment}")
-        return process._replace(blocks=blocks) if blocks.exists() else process
+        blocks = f"{self.folder}/{base}.blocks"
+        return process._replace(blocks=blocks) if os.path.exists(blocks) else process
 
     def counted(self, path):
         """What the names of a process's results begin with, and the number of this segment of its. Some may
@@ -59,7 +61,7 @@ class Segments:
         file, count = self.last.get(base, (0, 0))
         missing = segment - 1 - (file if segment > file else 0)
         if missing or segment <= file:
-            (self.folder / f"{base}.blocks").unlink(missing_ok=True)
+            remove(f"{self.folder}/{base}.blocks")
         self.dropped += missing
         self.count += 1
         self.last[base] = segment, count + missing + 1
@@ -67,13 +69,12 @@ class Segments:
 
     def release(self, process):
         """Deletes what is left of a segment but the blocks at its end, with which the next one begins."""
-        taken = process.record
-        blocks = self.folder / f"{base_of(taken)}.blocks"
-        blocks.unlink(missing_ok=True)
+        blocks = f"{self.folder}/{base_of(process.record)}.blocks"
+        remove(blocks)
         with contextlib.suppress(FileNotFoundError):
-            taken.with_suffix(".left").rename(blocks)
-        for left in self.folder.glob(f"{taken.stem}.*"):
-            left.unlink()
+            os.rename(process.beside(".left"), blocks)
+        for left in files_in(self.folder, os.path.basename(process.beside(".*"))):
+            os.unlink(left)
 
     def counts(self, events, passed):
         """How much was looked at, which isn't said of each segment. So many segments had no page."""
@@ -86,11 +87,11 @@ class Segments:
 
 
 def base_of(path):
-    return path.stem.rpartition(".")[0]
+    return os.path.basename(path).rsplit(".", 2)[0]
 
 
 def segment_of(path):
-    return int(path.stem.rpartition(".")[2])
+    return int(path.split(".")[-2])
 
 
 def is_closed(path):
@@ -101,4 +102,4 @@ def is_closed(path):
                 return True
     except FileNotFoundError:
         return False
-    return path.with_name(f"{base_of(path)}.{segment_of(path) + 1}.rec").exists()
+    return os.path.exists(f"{os.path.dirname(path)}/{base_of(path)}.{segment_of(path) + 1}.rec")

@@ -1,19 +1,19 @@
 """Converts, analyses and shows the processes of all runs."""
 
 import contextlib
+import os
 import shlex
 import sys
 
 from shb_common.programs import Origin
-from shb_common.report import race_of
 from shb_common.standard import words_of
 from shb_common.words import Refused, counted, printable
-from shb_record.converting import CRASHED, KILLED, Conversion, check_room, order_of
+from shb_record.converting import (CRASHED, KILLED, Contradiction, Conversion, Listing, check_room,
+                                   order_of)
 from shb_record.modules import Modules
 from shb_record.parts import ANALYSER, now, say
 from shb_record.places import Places
 from shb_record.running import PRELOADED, cause
-from shb_record.listing import Contradiction, Listing
 
 
 KINDS = {b"r": "read", b"w": "written"}
@@ -86,7 +86,7 @@ class Look:
         except (Refused, OSError) as fault:
             self.fail(fault)
             self.say_unshown(looked)
-            if process.record.exists():
+            if os.path.exists(process.record):
                 self.keep_failed(process)
             return None
         if self.options.keep and do == self.show:
@@ -148,7 +148,7 @@ class Look:
             self.modules.callers |= looked.called.files
             origin = Origin(looked.called, process.program)
             origin.add_modules(process.modules)
-        return self.places.add_new(process, self.results.folder / f"{process.base}.std", origin, places,
+        return self.places.add_new(process, f"{self.results.folder}/{process.base}.std", origin, places,
                                    looked.numbers, is_behind)
 
     def keep_files(self, looked):
@@ -157,7 +157,7 @@ class Look:
             return
         looked.has_files = True
         looked.trace, looked.place_list, looked.uses, looked.stacks = (
-            self.results.keep(path, f"{looked.process.base}{path.suffix}")
+            self.results.keep(path, looked.process.base + os.path.splitext(path)[1])
             for path in (looked.trace, looked.place_list, looked.uses, looked.stacks))
 
     def choose(self, process, places):
@@ -183,8 +183,7 @@ class Look:
         if looked.behind:
             looked.places = [*looked.places, *looked.behind]
             looked.write_page(looked.places)
-            looked.races += [(race_of(*race), race.accesses) for place in looked.behind
-                                        for race in place.variables.values()]
+            looked.races += [race for place in looked.behind for race in place.variables.values()]
             new, _ = self.add_new(looked, looked.behind, True)
             looked.new = [*looked.new, *new]
             self.keep_files(looked)
@@ -220,8 +219,8 @@ class Look:
 
     def keep_turns(self, process, has_unknown):
         """Keeps a process's turns if there is something to run again, and says how far it followed any."""
-        turns = process.record.with_suffix(".turns")
-        if turns.exists() and (has_unknown or self.options.keep):
+        turns = process.beside(".turns")
+        if os.path.exists(turns) and (has_unknown or self.options.keep):
             kept = self.results.keep(turns, f"{process.base}.turns")
             if has_unknown:
                 self.again = self.again or kept
@@ -240,8 +239,8 @@ class Look:
             return
         first = [note for note in looked.notes if note.startswith(CRASHED)] + looked.cuts
         notes = [f"{note[0].upper()}{note[1:]}." for note in [*first, process.replay] if note]
-        has_turns = process.record.with_suffix(".turns").exists()
-        turns = self.results.folder / f"{process.base}.turns" if has_turns else ""
+        has_turns = os.path.exists(process.beside(".turns"))
+        turns = f"{self.results.folder}/{process.base}.turns" if has_turns else ""
         page = self.results.path(f"{process.base}.html")
         # takes its time, and a run without a place does without
         from shb_view.command import explain, show_run

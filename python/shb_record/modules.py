@@ -34,7 +34,7 @@ class Modules:
     def add(self, paths):
         for path in paths:
             if (b"/" in path and not is_of_the_system(os.path.basename(path))
-                and not path.startswith(bytes(LIBRARY))):
+                and not path.startswith(os.fsencode(LIBRARY))):
                 self.kinds[path] = told(path, "kind")
 
     def those(self, kind, paths=None):
@@ -73,7 +73,7 @@ class Modules:
                      if os.path.basename(path) in needed for function in told(path, "calls")[b"export"]
                      if not function.startswith(ORDERS_NOTHING)}
         if of_module:
-            for function in told(bytes(LIBRARY / "libtsan.so"), "calls")[b"export"]:
+            for function in told(f"{LIBRARY}/libtsan.so", "calls")[b"export"]:
                 of_module.pop(function, None)
         for calls in [told(path, "calls") for path in hooked] if of_module else ():
             for function, called in zip(calls[b"caller"], calls[b"called"]):

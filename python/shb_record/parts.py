@@ -1,7 +1,7 @@
 """What the command is made of, and where that is."""
 
+import fnmatch
 import os
-import pathlib
 import shutil
 import time
 
@@ -9,7 +9,7 @@ from shb_common import parts
 from shb_common.standard import tell
 from shb_common.words import Refused, printable
 
-LIBRARY = pathlib.Path(parts.part("../recorder/lib/libtsan.so", "libtsan.so")).parent
+LIBRARY = os.path.dirname(parts.part("../recorder/lib/libtsan.so", "libtsan.so"))
 CONVERTER = parts.part("../recorder/shb-std", "shb-std")
 READER = parts.part("../recorder/module-reader", "module-reader")
 ANALYSER = os.environ.get("SHB") or parts.ANALYSER
@@ -17,7 +17,7 @@ ANALYSER = os.environ.get("SHB") or parts.ANALYSER
 
 def check_parts():
     """Fails where something is missing that is needed after the program ran."""
-    for path in (LIBRARY / "libtsan.so", CONVERTER):
+    for path in (f"{LIBRARY}/libtsan.so", CONVERTER):
         if not os.path.exists(path):
             raise Refused(f"{path} isn't there; in a checkout `make recorder` builds the recorder")
     if not shutil.which(ANALYSER):
@@ -28,6 +28,12 @@ def say(line=""):
     """Prints a line on standard error. What doesn't print in it, as an escape of a path, is escaped."""
     shown = printable(str(line).encode("utf-8", "surrogateescape"))
     tell(f"shb-record: {shown}" if line else "")
+
+
+def files_in(folder, pattern):
+    """The paths of the files in a folder whose names have a pattern; none where it is gone."""
+    names = os.listdir(folder) if os.path.isdir(folder) else []
+    return [f"{folder}/{name}" for name in fnmatch.filter(names, pattern)]
 
 
 def now():

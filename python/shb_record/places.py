@@ -75,7 +75,7 @@ class Places(places.Places):
             sides = tuple(map(self.names.side, key))
             for raw in [raw for raw, name in names.items() if self.given.has(sides, name)]:
                 accesses |= {(place.first, raw), (place.second, raw)}
-                races.append((place.variables[raw].events, place.variables[raw].accesses))
+                races.append(place.variables[raw])
         return accesses, races
 
     def new_variables(self, key, names):
@@ -133,5 +133,5 @@ def table(rows):
     for row in rows:
         process, trace = row.example
         names = b", ".join(known.written(name) for name, _ in row.variables) + b", .." * row.has_more
-        words = row.state(), *map(str, row.race.events), process, trace.name
+        words = row.state(), *map(str, row.race.events), process, os.path.basename(trace)
         yield b"\t".join([*row.names, b"%d" % row.places, names, *map(os.fsencode, words)]) + b"\n"

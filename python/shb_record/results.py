@@ -4,13 +4,12 @@ import contextlib
 import fcntl
 import itertools
 import os
-import pathlib
 import re
 import shutil
 import tempfile
 
 from shb_common.words import Refused
-from shb_record.parts import now, say
+from shb_record.parts import files_in, now, say
 
 LIST = "made-by-shb-record.txt"
 LIST_BEGIN = "# What shb-record made in this folder"
@@ -27,7 +26,7 @@ class Results:
         try:
             self.folder, self.list = unused_folder(folder)
         except OSError as fault:
-            why = "it is a file" if folder.is_file() else fault.strerror
+            why = "it is a file" if os.path.isfile(folder) else fault.strerror
             raise Refused(
                 f"the results can't be put into {folder}: {why}; name another folder with -o") from None
         self.names = []     # of what is made
@@ -38,9 +37,9 @@ class Results:
             self.path(name, is_there=True)
         self.tables = {name: self.path(name) for name in TABLES}
         # records before they are looked at
-        self.work = pathlib.Path(tempfile.mkdtemp(prefix="work-", dir=self.folder))
-        self.path(self.work.name, is_there=True)
-        (self.work / LIST).touch()      # shows a later call that it is one of ours
+        self.work = tempfile.mkdtemp(prefix="work-", dir=self.folder)
+        self.path(os.path.basename(self.work), is_there=True)
+        open(f"{self.work}/{LIST}", "wb").close()   # shows a later call that it is one of ours
         self.first = [] if spared else list(self.names)     # which say nothing if they are all
 
     def remove_earlier(self, spared):
@@ -48,10 +47,10 @@ class Results:
         self.list.seek(0)
         first, *names = self.list.read().splitlines() or [LIST_BEGIN]
         if not first.startswith(LIST_BEGIN):
-            raise Refused(f"{self.folder / LIST} is there, and shb-record didn't make it")
-        ours = {name: self.folder / name for name in names if re.fullmatch(OURS, name)}
+            raise Refused(f"{self.folder}/{LIST} is there, and shb-record didn't make it")
+        ours = {name: f"{self.folder}/{name}" for name in names if re.fullmatch(OURS, name)}
         kept = [name for name, path in ours.items()
-                if spared and path.exists() and os.path.samefile(path, spared)]
+                if spared and os.path.exists(path) and os.path.samefile(path, spared)]
         removed = [name for name in reversed(ours) if name not in kept and remove(ours[name])]
         if removed:
             say(f"replacing the results in {self.folder}, made{first[len(LIST_BEGIN):]}")
@@ -59,7 +58,7 @@ class Results:
 
     def path(self, name, is_there=False):
         """The path of a file or folder that is to be made. What is there already isn't ours, and stays."""
-        path = self.folder / name
+        path = f"{self.folder}/{name}"
         if os.path.lexists(path) and not is_there:
             raise Refused(f"{path} is there, and shb-record didn't make it; name another folder with -o")
         self.list.write(f"{name}\n")
@@ -70,12 +69,12 @@ class Results:
     def keep(self, path, name):
         """Moves a finished file out of the folder of work. Returns its new path."""
         kept = self.path(name)
-        path.rename(kept)
+        os.rename(path, kept)
         return kept
 
     def keep_records(self):
-        for record in sorted(self.work.glob("*.rec")):
-            say(f"the record is kept: {self.keep(record, record.name)}")
+        for record in sorted(files_in(self.work, "*.rec")):
+            say(f"the record is kept: {self.keep(record, os.path.basename(record))}")
 
     def has_more(self):
         """Whether something was made besides the tables and the folder of work."""
@@ -86,20 +85,20 @@ class Results:
         use the folder."""
         shutil.rmtree(self.work, ignore_errors=True)
         if not is_recorded:
-            (self.folder / LIST).unlink()
+            os.unlink(f"{self.folder}/{LIST}")
             with contextlib.suppress(OSError):
-                self.folder.rmdir()     # which may have others' files
+                os.rmdir(self.folder)   # which may have others' files
         self.list.close()
 
 
 def unused_folder(folder):
     """The folder, or one with a number after its name, that no other call uses, and its locked list."""
     for number in itertools.count(1):
-        path = folder if number == 1 else folder.with_name(f"{folder.name}-{number}")
-        path.mkdir(parents=True, exist_ok=True)
+        path = folder if number == 1 else f"{folder}-{number}"
+        os.makedirs(path, exist_ok=True)
         look_at_owner(path)
         # not through a link, which may lead anywhere: somebody else may have prepared the folder
-        file = open(path / LIST, "a+", encoding="utf-8", errors="surrogateescape",
+        file = open(f"{path}/{LIST}", "a+", encoding="utf-8", errors="surrogateescape",
                     opener=lambda path, flags: os.open(path, flags | os.O_NOFOLLOW, 0o666))
         try:
             fcntl.flock(file, fcntl.LOCK_EX | fcntl.LOCK_NB)
@@ -113,7 +112,7 @@ def unused_folder(folder):
 
 def look_at_owner(folder):
     """Refuses for root a folder that isn't root's, and tells others of one that isn't theirs."""
-    if {folder.lstat().st_uid, folder.stat().st_uid} == {os.geteuid()}:
+    if {os.lstat(folder).st_uid, os.stat(folder).st_uid} == {os.geteuid()}:
         return
     if os.geteuid() == 0:
         raise Refused(f"{folder} belongs to another user, who can change what is in it: -o names another "
@@ -123,10 +122,10 @@ def look_at_owner(folder):
 
 def remove(path):
     """Deletes a file, or a folder of work that is marked as ours. Returns whether a file was there."""
-    if path.is_symlink() or path.is_file():
-        path.unlink()
+    if os.path.islink(path) or os.path.isfile(path):
+        os.unlink(path)
         return True
-    if path.name.startswith("work-") and (path / LIST).is_file():
+    if os.path.basename(path).startswith("work-") and os.path.isfile(f"{path}/{LIST}"):
         shutil.rmtree(path, ignore_errors=True)
     return False
 

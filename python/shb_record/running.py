@@ -2,13 +2,10 @@
 
 import collections
 import contextlib
-import mmap
 import os
-import pathlib
 import shlex
 import shutil
 import signal
-import subprocess
 import time
 
 from shb_common.stops import STOPS
@@ -18,6 +15,7 @@ from shb_record.parts import LIBRARY, say
 
 SEGMENT = 1 << 20  # records, with --live
 WATCHED = STOPS | {signal.SIGCHLD}
+IGNORED = signal.SIGPIPE, signal.SIGXFSZ   # by Python itself, which the program isn't to inherit
 POLL = 0.2  # seconds: so often it is looked whether a segment is closed
 PRELOADED = "libtsan.so.2"      # of our folder, as gcc's own is called
 REPLAYED = "replayed.turns"  # in the folder of work: the list that is followed
@@ -27,10 +25,10 @@ def environment(options, number, folder):
     """Our library stands before gcc's own, under its name: so what was built for ThreadSanitizer is recorded
     as it is. Where it would come too late the program, and none that this one starts, has it loaded first;
     SHB_PRELOAD is what these have."""
-    paths = [str(LIBRARY)] + [path for path in [os.environ.get("LD_LIBRARY_PATH")] if path]
-    replay = {"SHB_REPLAY": str(folder / REPLAYED)} if options.replay else {}
+    paths = [LIBRARY] + [path for path in [os.environ.get("LD_LIBRARY_PATH")] if path]
+    replay = {"SHB_REPLAY": f"{folder}/{REPLAYED}"} if options.replay else {}
     segments = {"SHB_SEGMENT": os.environ.get("SHB_SEGMENT") or str(SEGMENT)} if options.live else {}
-    variables = dict(os.environ, SHB_RECORD=str(folder / f"run{number}.%p{'.%s' * options.live}.rec"),
+    variables = dict(os.environ, SHB_RECORD=f"{folder}/run{number}.%p{'.%s' * options.live}.rec",
                      SHB_SEED=str(options.seed + number - 1),
                      LD_LIBRARY_PATH=":".join(paths), **replay, **segments)
     if is_behind(shutil.which(options.program), variables):
@@ -44,10 +42,9 @@ class CannotRun(Refused):
 
 
 def started(words, variables, blocked):
-    """The program as it begins, with its environment and the signals that are blocked in it."""
+    """Starts the program, with its environment and the signals that are blocked in it. Returns its number."""
     try:
-        return subprocess.Popen(words, env=variables,
-                                preexec_fn=lambda: signal.pthread_sigmask(signal.SIG_SETMASK, blocked))
+        return os.posix_spawnp(words[0], words, variables, setsigmask=blocked, setsigdef=IGNORED)
     except OSError as fault:
         raise CannotRun(f"{words[0]}: can't be run: {fault.strerror}") from None
 
@@ -62,14 +59,14 @@ class Run:
     `look` looks at what there is of it, and says whether it did."""
 
     def __init__(self, options, number, folder, look=None, blocked=None):
-        # `end` is when it is killed
-        self.wait, self.stop, self.stopped, self.end = options.wait, None, None, None
+        # `end` is when it is killed, `own` its status in a shell once it has ended
+        self.wait, self.stop, self.stopped, self.end, self.own = options.wait, None, None, None, None
         before = signal.pthread_sigmask(signal.SIG_BLOCK, WATCHED)
         try:
             words = [options.program] + options.arguments
             self.program = started(words, environment(options, number, folder),
                                    before if blocked is None else blocked)
-            while self.program.poll() is None:
+            while not self.has_ended():
                 pauses = [0 if look() else POLL] if look else []
                 pauses += [self.end - time.monotonic()] if self.end else []
                 self.take_signal(WATCHED, min(pauses, default=None))
@@ -77,9 +74,14 @@ class Run:
         finally:
             signal.pthread_sigmask(signal.SIG_SETMASK, before)
 
+    def has_ended(self):
+        ended, status = os.waitpid(self.program, os.WNOHANG)
+        if ended:
+            self.own = 128 + os.WTERMSIG(status) if os.WIFSIGNALED(status) else os.WEXITSTATUS(status)
+        return ended != 0
+
     def outcome(self):
-        status = self.program.returncode
-        return Outcome(128 - status if status < 0 else status, self.stop, self.stopped)
+        return Outcome(self.own, self.stop, self.stopped)
 
     def take_signal(self, watched, seconds):
         """Waits for a signal, passes it on, and kills what was told to end and is still there. The terminal
@@ -96,7 +98,7 @@ class Run:
 
     def tell(self, number):
         """Sends a signal to the program, or to what it left behind."""
-        for child in [self.program.pid] if self.program.returncode is None else children():
+        for child in [self.program] if self.own is None else children():
             with contextlib.suppress(ProcessLookupError):
                 os.kill(child, number)
 
@@ -126,10 +128,10 @@ class Run:
 def children():
     """The processes that are ours now."""
     try:
-        numbers = pathlib.Path(f"/proc/self/task/{os.getpid()}/children").read_text()
+        with open(f"/proc/self/task/{os.getpid()}/children", encoding="ascii") as file:
+            return list(map(int, file.read().split()))
     except OSError:
         return []
-    return list(map(int, numbers.split()))
 
 
 MARKS = {b"Go build ID": "Go", b"/rustc/": "Rust"}  # that compilers leave in a program
@@ -137,6 +139,7 @@ MARKS = {b"Go build ID": "Go", b"/rustc/": "Rust"}  # that compilers leave in a 
 
 def cause(program):
     """Why the program left no record, as its file tells, in sentences."""
+    import mmap  # most calls do without
     with open(shutil.which(program), "rb") as file:
         if file.read(4) != b"\x7fELF":
             return "No program that it started was compiled with -fsanitize=thread."

@@ -11,21 +11,20 @@ from subprocess import PIPE
 
 from shb_common.analyser import Place, Run
 from shb_common.children import apart
-from shb_record.listing import Listing
+from shb_record.converting import Listing
 
 
 class Second:
     """`accesses` are those at known places: pairs of a location and a variable, as the trace has them;
-    `races` the known ones, each with its two events and their accesses. `seen` gets those of these whose
-    second access reads what the first wrote."""
+    `races` the known ones. `seen` gets the accesses of those whose second access reads what the first
+    wrote."""
 
     def __init__(self, accesses, races):
         self.accesses, self.seen = accesses, []
         # of each access that is left out: how many events before it aren't
         self.kept_before = array.array("Q")
         self.watched = {word + name + b")": name for _, name in accesses for word in (b"r(", b"w(")}
-        self.reads = {second: (first, accesses) for (first, second), accesses in races
-                      if accesses[1].word == b"r"}
+        self.reads = {race.events[1]: race for race in races if race.accesses[1].word == b"r"}
         self.writes = {}    # by variable: its last one
 
     def places(self, conversion, room):
@@ -59,8 +58,8 @@ class Second:
     def look(self, number, operation, name):
         if operation.startswith(b"w"):
             self.writes[name] = number
-        elif number in self.reads and self.reads[number][0] == self.writes.get(name):
-            self.seen.append(self.reads[number][1])
+        elif number in self.reads and self.reads[number].events[0] == self.writes.get(name):
+            self.seen.append(self.reads[number].accesses)
 
     def number(self, kept):
         """The number in the whole trace of an event that isn't left out."""

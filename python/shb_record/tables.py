@@ -1,15 +1,13 @@
 """The tables of the results: as tab-separated values, for programs, for code review, as known places."""
 
 import os
-import pathlib
 import re
 import shlex
-import urllib.parse
 
 from shb_common.words import counted, in_html
-import shb_view
 from shb_common import result, sarif
 from shb_common.places import unknown_places
+from shb_common.parts import part_of_page
 from shb_common.programs import pair_of
 from shb_common.stacks import Frame
 from shb_record.places import count, table
@@ -21,7 +19,7 @@ def tables_of(look, rows, status):
     for (process, trace), its in look.found.items():
         places = [{**place, "group": len(groups) + place["group"]} for place in its["places"]]
         found.update(result.entries_of((process, trace), places))
-        groups += [{**group, "process": process, "trace": trace.name} for group in its["groups"]]
+        groups += [{**group, "process": process, "trace": os.path.basename(trace)} for group in its["groups"]]
     entries = [entry(look, row, result.entry_of(found, row)) for row in rows]
     return {"unknown.places": unknown_places(rows), "places.tsv": b"".join(table(rows)),
             "places.json": result.in_bytes(document(look, rows, entries, groups, status)),
@@ -46,7 +44,7 @@ def entry(look, row, found):
     reads = list(zip(row.race.events, row.race.accesses))
     if row.race.accesses[0].location != row.texts[0]:
         reads.reverse()
-    return result.entry(row, found, reads, process=process, trace=trace.name,
+    return result.entry(row, found, reads, process=process, trace=os.path.basename(trace),
                         **({"group": found["group"]} if found else {}),
                         processes=[name for name, _ in look.places.seen[pair_of(row.key)].traces])
 
@@ -63,10 +61,11 @@ def log(look, rows, entries, status):
         if blamed:
             blamed = (names.get(blamed["in_trace"], blamed["in_trace"].encode()),
                       blamed.get("file", "").encode())
-        example, more = os.fsencode(trace.relative_to(look.results.folder)), {"process": process}
-        alerts.append(sarif.Alert(row, without_numbers(found), "", example, accesses, more, blamed))
+        example = os.fsencode(os.path.basename(trace))
+        alerts.append(sarif.Alert(row, without_numbers(found), "", example, accesses, {"process": process},
+                                  blamed))
     notes = [("note", line) for line in look.meaning()]
-    return sarif.log(alerts, sarif.Here(pathlib.Path.cwd()), notes, not look.has_failed and not look.is_cut,
+    return sarif.log(alerts, sarif.Here(os.getcwd()), notes, not look.has_failed and not look.is_cut,
                      status)
 
 
@@ -84,14 +83,13 @@ def access_of(one, sources):
 
 def index(look, rows):
     """A page with a name that stays: each process with its page and its groups."""
-    style = pathlib.Path(shb_view.__file__).with_name("page.css").read_text(encoding="utf-8")
     text = ["<!doctype html>", '<html lang="en"><meta charset="utf-8">',
             '<meta name="viewport" content="width=device-width, initial-scale=1">',
-            f"<title>Data races</title><style>{style}</style>",
+            f"<title>Data races</title><style>{part_of_page('page.css')}</style>",
             f"<h1>{in_html(shlex.join([look.options.program, *look.options.arguments]))}</h1>",
             f"<p>{counted(count(row for row in rows if not row.is_known), 'unknown place')} with races</p>"]
     for (process, trace), found in look.found.items():
-        page = urllib.parse.quote(trace.with_suffix(".html").name)
+        page = os.path.splitext(os.path.basename(trace))[0] + ".html"
         text.append(f'<h2><a href="{page}">{in_html(process)}</a></h2><ul>')
         heads = dict.fromkeys(f"{place['variables'][0]['name']}: {place['headline']}"
                               for place in found["places"] if place["variables"])

@@ -55,24 +55,23 @@ class Analyser:
         return f"\n  {short(line, MOST_SHOWN)}" + (f"\n  hint: {hint}" if hint else "")
 
     def head(self, take):
-        """The report of `races --list`. The accesses of its races are given to `take`, if they are few."""
+        """The report of `races --list`. Its races are given to `take`, if they are few."""
         with self.started(HEAD, self.trace, subprocess.PIPE) as run:
             try:
                 report = Report(run.out)
                 if report.count <= MOST_LISTED:
-                    for race, accesses in report.races():
-                        take(race, *accesses)
+                    for race in report.races():
+                        take(race)
                 return report
             except BadReport as fault:
                 self.ended(HEAD, run)
                 raise Refused(f"`shb races --list` wrote no report: {fault}") from None
 
-    def list_variables(self, take):
-        """Gives the nearest race of each variable at each place to `take`, that of the place first."""
+    def nearest(self):
+        """The nearest race of each variable at each place, that of the place first."""
         with tempfile.TemporaryFile() as listed:
             self.write(LIST_VARIABLES, listed)
-            for race, accesses in Report(listed).races():
-                take(race, *accesses)
+            yield from Report(listed).races()
 
     def write(self, words, file):
         with self.started(words, self.trace, file) as run:

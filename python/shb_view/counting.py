@@ -209,9 +209,10 @@ class Counting:
         """Notes the races that read what they wrote, here or, as the uses say, elsewhere in the run."""
         for name in self.groups:
             for race in self.access_kinds.gathered.races([name]):
-                lines = race.place if race.words[0] == b"w" else race.place[::-1]
-                if (self.sources.get(race.second) == race.first
-                    or b"r" in race.words and (name, *lines) in self.sights):
+                (first, second), (one, other) = race.events, race.accesses
+                lines = race.place if one.word == b"w" else race.place[::-1]
+                if (self.sources.get(second) == first
+                    or b"r" in (one.word, other.word) and (name, *lines) in self.sights):
                     self.seen.add(lines)
 
     def take_uses(self):

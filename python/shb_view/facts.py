@@ -16,14 +16,14 @@ from shb_view.words import Code, Own, listed, lock_name, place
 
 MOST_NAMED = 3  # lines in a sentence
 FLAG = "make it atomic if it is a flag or a counter; else "
-DIGITS = re.compile(rb"[0-9]+")
-NUMBERS = re.compile(rb"(?<=#)[0-9]+|(?<=\[)[0-9]+(?=\])")  # of a block, and of an element
+DIGITS = rb"[0-9]+"
+NUMBERS = rb"(?<=#)[0-9]+|(?<=\[)[0-9]+(?=\])"  # of a block, and of an element
 
 
 @functools.lru_cache(maxsize=65_536)
 def alike(lock):
     """A lock with stars for its numbers of blocks and elements."""
-    return NUMBERS.sub(b"*", lock)
+    return re.sub(NUMBERS, b"*", lock)
 
 
 # The forms, in the order in which they are tried, each with a number: the least is shown first and in the
@@ -510,8 +510,8 @@ def not_always(sites):
 
 def holds_another(site, lock):
     """Whether the accesses without a lock hold others that differ by numbers alone, as each object's own."""
-    kind = DIGITS.sub(b"", lock)
-    alike = [one for one in site.guards if DIGITS.sub(b"", one) == kind]
+    kind = re.sub(DIGITS, b"", lock)
+    alike = [one for one in site.guards if re.sub(DIGITS, b"", one) == kind]
     return len(alike) > 1 and sum(map(site.guarded, alike)) >= site.total
 
 

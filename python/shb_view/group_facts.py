@@ -4,6 +4,7 @@ import collections
 
 from shb_common.result import text
 from shb_common.stacks import bare
+from shb_common.variables import variable_of
 from shb_view.facts import RANKS, fact_of, joined, sites_of
 from shb_view.groups import ON_STACK, Group, Pair, object_of
 from shb_view.handed import MOST_RACES, handed, published, stores_of
@@ -57,7 +58,7 @@ class Facts:
         """Whether the page's trace lacks something between the accesses of a race: then it says
         nothing of that."""
         races = self.kinds.gathered.races(group.names) if self.are_apart else ()
-        return any(self.are_apart(race.first, race.second) for race in races)
+        return any(self.are_apart(*race.events) for race in races)
 
     def with_gone(self, group, fact):
         """A fact, with the lines that use a local of another thread when that has the system's ones there."""
@@ -66,10 +67,10 @@ class Facts:
             return fact
         [owner], lines = owners, set()
         for race in self.kinds.gathered.races(group.names):
-            event, other = race[:2] if race.giver == owner else race[1::-1]
-            local = self.kinds.stacks.local_of(race.variable, event).rpartition(b" of ")[2]
+            event, other = race.events if race.threads[0] == owner else race.events[::-1]
+            local = self.kinds.stacks.local_of(variable_of(race), event).rpartition(b" of ")[2]
             is_of_system = local and last_name(local) in self.system_at(event)
-            if owner in (race.giver, race.taker) and is_of_system and not self.system_at(other):
+            if owner in race.threads and is_of_system and not self.system_at(other):
                 lines.add(self.kinds.gathered.accesses[other].location)
         return fact.of_gone(owner, lines) if lines else fact
 
@@ -81,7 +82,7 @@ class Facts:
     def come_again(self, names, races, pairs):
         """Whether an access of a race is repeated after a store that the other thread may have
         read by then."""
-        does = {(race.giver, race.words[0]) for its in races.values() for race in its}
+        does = {race.accesses[0][:2] for its in races.values() for race in its}
         again = [one for name in names for one in self.again.get(name, ()) if (one.thread, one.word) in does]
         stores = [store for pair in pairs for store in self.stores.get(pair.key()[:2], ())]
         return any(one.thread == thread and max(one.since, after) < min(one.event, until)
@@ -136,7 +137,7 @@ def fact_entry(one, kinds):
     pairs of lines."""
     races = kinds.gathered.races_at(one.group.names).values()
     return {"form": one.fact.form, "group": list(map(text, one.group.names)), **one.fact.said,
-            "all_races": sorted(race[:2] for its in races for race in its[:MOST_RACES]),
+            "all_races": sorted(race.events for its in races for race in its[:MOST_RACES]),
             "pairs": [list(map(text, pair)) for pair in sorted(one.group.places())]}
 
 

@@ -5,6 +5,7 @@ import array
 import collections
 import re
 
+from shb_common.report import Race
 from shb_common.variables import atomic_of
 from shb_view.words import Code
 
@@ -15,10 +16,6 @@ INSIDE = rb"(?P<inside>(?:\.[A-Za-z_]\w*|\[[0-9]+\])*(?:\+[0-9]+)?)"
 IN_BLOCK = re.compile(rb"(?P<base>.+?)" + INSIDE
                       + rb"(?P<of> of .+(?::[0-9]+|\+0x[0-9a-f]+))(?P<block>#[0-9]+)", re.S)
 NAME = re.compile(rb"(?P<base>.*?)(?P<block>#[0-9]+)?" + INSIDE + rb"(?P<of>(?: of .+)?)", re.S)
-
-# A race that was read: its events, its place, the threads of the first and the second, its variable, and
-# whether each reads or writes.
-Between = collections.namedtuple("Between", "first second place giver taker variable words")
 
 
 class Pair:
@@ -56,12 +53,9 @@ class Group(collections.namedtuple("Group", "pairs variables names")):
         return {pair.locations for pair in self.pairs}
 
 
-def place_of(accesses):
-    return accesses[0].location, accesses[1].location
-
-
 def shown_first(race):
-    return race.schedule is None, race.second - race.first, race.first
+    first, second = race.events
+    return race.schedule is None, second - first, first
 
 
 class Gathered:
@@ -76,20 +70,21 @@ class Gathered:
         self.accesses = {}  # by event, of the races that were read
         self.events = {}  # by variable: the two events of each of these races, one after the other
 
-    def share(self, race, first, second):
-        """Takes a race of a variable, once, with its accesses."""
+    def share(self, race):
+        """Takes a race of a variable, once."""
+        first, second = race.accesses
         atomic = atomic_of(first, second)
         if atomic:
             self.atomics[first.name] = atomic
-        self.above[self.top(atomic or first.name)] = self.top(self.pair_at(place_of((first, second))))
-        self.accesses[race.first], self.accesses[race.second] = first, second
+        self.above[self.top(atomic or first.name)] = self.top(self.pair_at(race.place))
+        self.accesses.update(zip(race.events, race.accesses))
         if first.name not in self.events:
             self.events[first.name] = array.array("Q")
-        self.events[first.name].extend(race[1:3])
+        self.events[first.name].extend(race.events)
 
-    def add(self, race, place, races):
+    def add(self, race, races):
         """Takes a race that may be shown, of a place that has so many; 0 where they aren't counted."""
-        pair = self.pair_at(place)
+        pair, place = self.pair_at(race.place), race.place
         if not pair.places:
             self.listed.append(pair)
         if not pair.places or shown_first(race) < shown_first(pair.closest):
@@ -109,16 +104,14 @@ class Gathered:
         for name in names:
             events = iter(self.events.get(name, ()))
             for first, second in zip(events, events):
-                one, other = self.accesses[first], self.accesses[second]
-                yield Between(first, second, (one.location, other.location), one.thread, other.thread,
-                              self.atomics.get(name, name), (one.word, other.word))
+                yield Race(0, (first, second), (self.accesses[first], self.accesses[second]), None)
 
     def races_at(self, names):
         """The same by place, those of each in order."""
         found = {}
         for race in self.races(names):
             found.setdefault(race.place, []).append(race)
-        return {place: sorted(races) for place, races in found.items()}
+        return {place: sorted(races, key=lambda race: race.events) for place, races in found.items()}
 
     def variables(self):
         """By place: how many of the races that were read each variable has, by its name in the trace."""

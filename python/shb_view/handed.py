@@ -2,6 +2,8 @@
 
 import collections
 
+from shb_common.variables import variable_of
+
 MOST_RACES = 64  # of a place that are looked at
 MOST_NAMED = 3  # of a group
 NEVER = float("inf")
@@ -74,12 +76,12 @@ def between(pairs, race, is_free):
     """What was handed on without an order between two accesses of a race: the store is after the first, the
     load before the second. What is updated on both sides, as a counter is, hands nothing on but what is
     freed."""
-    found = {}
+    found, (first, second) = {}, race.events
     for pair in pairs:
         store, load = pair.store, pair.load
-        if (store.event > race.first and load.event <= race.second and (is_free or store.kind != load.kind)
-            and store.name != race.variable):
-            pair = pair.seen_from(race.second)
+        if (store.event > first and load.event <= second and (is_free or store.kind != load.kind)
+            and store.name != variable_of(race)):
+            pair = pair.seen_from(second)
             if pair.lacking():
                 found.setdefault(pair.key(), pair)
     return found
@@ -93,13 +95,13 @@ def published(races, pairs, frees):
     for its in races.values():
         common = None
         for race in its[:MOST_RACES]:
-            if frees(race.first):  # in whatever order, what follows uses what was freed
+            if frees(race.events[0]):  # in whatever order, what follows uses what was freed
                 return []
-            new = between(pairs.get((race.giver, race.taker), ()), race, frees(race.second))
+            new = between(pairs.get(race.threads, ()), race, frees(race.events[1]))
             common = new if common is None else {key: pair for key, pair in common.items() if key in new}
             if not common:
                 return []
         pair = min(common.values(), key=lambda it: (it.store.event, it.load.event))
         _, events = found.setdefault(pair.key()[:3], (pair, []))
-        events.extend([race.first, race.second] for race in its[:MOST_RACES])
+        events.extend(race.events for race in its[:MOST_RACES])
     return list(found.values())[:MOST_NAMED]

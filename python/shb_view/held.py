@@ -6,15 +6,15 @@ import re
 
 MOST_COUNTED = 64  # locks held at an access, if their names are to be counted
 MOST_SHOWN = 8  # locks held at an event that are shown
-READ_LOCK = re.compile(rb"(.+)@reader\..+", re.S)  # as the recorder names what a reader holds of a lock
+READ_LOCK = rb"(?s)(.+)@reader\..+"  # as the recorder names what a reader holds of a lock
 # as it names a lock that tells the order of an atomic: none of the program's
-STAND_IN = re.compile(rb".+@[0-9]+(?:[<>].+)?", re.S)
+STAND_IN = rb"(?s).+@[0-9]+(?:[<>].+)?"
 
 
 @functools.lru_cache(maxsize=65_536)
 def read_lock(name):
     """The reader-writer lock that is held for reading under this name, or None."""
-    found = READ_LOCK.fullmatch(name) if b"@" in name else None
+    found = re.fullmatch(READ_LOCK, name) if b"@" in name else None
     return found[1] if found else None
 
 
@@ -35,7 +35,7 @@ class Operations(dict):
     def __missing__(self, operation):
         word, _, name = operation[:-1].partition(b"(")
         lock = called(name, self.locals)
-        is_lock = word in (b"acq", b"rel") and not (b"@" in lock and STAND_IN.fullmatch(lock))
+        is_lock = word in (b"acq", b"rel") and not (b"@" in lock and re.fullmatch(STAND_IN, lock))
         self[operation] = found = (word == b"acq", lock) if is_lock else None
         return found
 

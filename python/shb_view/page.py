@@ -5,10 +5,10 @@ never become markup."""
 import binascii
 import itertools
 import json
-import pathlib
 import shlex
 
 from shb_common.locations import line_of
+from shb_common.parts import part_of_page
 from shb_common.stacks import bare
 from shb_common.sums import sha256
 from shb_common.words import counted, in_html
@@ -23,7 +23,6 @@ from shb_view.words import (VERBS, MOST_SITES, NO_LOCK, Code, about, accesses_te
                             lock_parts, lock_words, notes_of, partner_parts, place, share, summary,
                             thread_parts)
 
-HERE = pathlib.Path(__file__).resolve().parent
 NAME, LINE = 80, 240  # columns
 # of a racing line; of each; threads, blocks and locks of a group
 MOST_STACKS, MOST_FRAMES, MOST_ORIGINS = 8, 40, 8
@@ -65,7 +64,7 @@ def marked(parts, most):
 
 
 def page_parts(view):
-    style, script = ((HERE / name).read_text(encoding="utf-8") for name in ("page.css", "page.js"))
+    style, script = map(part_of_page, ("page.css", "page.js"))
     head = [element("meta", charset="utf-8"), policy(style, script),
             element("meta", name="viewport", content="width=device-width, initial-scale=1"),
             element("title", f"{view.title}: {summary(view)[0]}"), element("style", Markup(style))]

@@ -7,6 +7,7 @@ import os
 import re
 
 from shb_common.refused import CARRIAGE_RETURNS, MARK
+from shb_common.report import Access
 from shb_common.variables import without_end
 from shb_common.words import Refused
 
@@ -14,9 +15,6 @@ BATCH = 65_536  # bytes of lines that are read at once
 ALONE = re.compile(rb"\r[^\n]")
 OPENS = ord("(")  # the second byte of `r(X)` and `w(X)` alone
 CHANGED = "the trace isn't the one that `shb` read: it was changed in between"
-
-# The fields of a line. `name` is what stands in the parentheses, nothing for a mark.
-Event = collections.namedtuple("Event", "thread word name location")
 
 # A line that was looked up, without its end; `row` is its number in the text, counted from 1.
 Found = collections.namedtuple("Found", "row line")
@@ -29,13 +27,13 @@ def fields_of(line):
 
 
 def event_of(line):
-    """The event of a line without its end."""
+    """The event of a line without its end. `name` is what stands in the parentheses, nothing for a mark."""
     try:
         thread, operation, *location = line.split(b"|", 2)
     except ValueError:
         raise Refused(CHANGED) from None
     word, _, name = operation.partition(b"(")
-    return Event(thread, word, b"" if word in (b"begin", b"end") else name[:-1], b"".join(location))
+    return Access(thread, word, b"" if word in (b"begin", b"end") else name[:-1], b"".join(location))
 
 
 def line_of(event):

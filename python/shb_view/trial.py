@@ -5,8 +5,6 @@ import bisect
 import collections
 import tempfile
 
-from shb_common.analyser import LIST_VARIABLES
-from shb_common.report import Report
 from shb_common.variables import without_end
 from shb_common.words import Refused
 from shb_view.analyser import Analyser
@@ -41,13 +39,12 @@ def move_of(found, counting):
     """The move of a thread's only accesses that would order the races of a group, or None: an access that
     comes after its thread creates the others that race with it, or before it joins them."""
     gathered = counting.access_kinds.gathered
-    races = gathered.races(found.group.names)
-    family = family_of({(race.giver, race.taker) for race in races}, counting.begins)
+    family = family_of({race.threads for race in gathered.races(found.group.names)}, counting.begins)
     if not family:
         return None
     creator, others = family
-    sides = {(race.first, race.words[0]) if race.giver == creator else (race.second, race.words[1])
-             for race in gathered.races(found.group.names)}
+    sides = {(event, access.word) for race in gathered.races(found.group.names)
+             for event, access in zip(race.events, race.accesses) if access.thread == creator}
     events, words = sorted({event for event, _ in sides}), {word for _, word in sides}
     sites = [its.values() for its in found.uses.variables.values()]
     repeating = {one.thread for name in found.group.names for one in counting.again.get(name, ())}
@@ -110,18 +107,18 @@ def ordered(uses, pairs):
 def still_racing(program, trace, changes):
     """Of each change the variables that still race: of the first ones, if all are too much to try."""
     changes = changes[:MOST_LINES // trace.count()]
-    with tempfile.TemporaryFile() as file, tempfile.TemporaryFile() as listed:
+    racing = [set() for _ in changes]
+    with tempfile.TemporaryFile() as file:
         bounds = write_copies(file, trace, changes)
         file.flush()
         try:
-            Analyser(program, file).write(LIST_VARIABLES, listed)
+            for race in Analyser(program, file).nearest():
+                first, second = race.events
+                if bisect.bisect(bounds, first) == bisect.bisect(bounds, second):
+                    number, _, name = race.accesses[0].name.partition(b"~")
+                    racing[int(number)].add(name)
         except Refused:  # as for too many threads
             return []
-        racing = [set() for _ in changes]
-        for race, accesses in Report(listed).races():
-            if bisect.bisect(bounds, race.first) == bisect.bisect(bounds, race.second):
-                number, _, name = accesses[0].name.partition(b"~")
-                racing[int(number)].add(name)
     return racing
 
 

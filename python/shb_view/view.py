@@ -16,7 +16,7 @@ from shb_view.analyser import MOST_LISTED, Analyser, Verdict
 from shb_view.counting import Counting, Kinds
 from shb_view.facts import RANKS
 from shb_view.group_facts import Facts, merged_groups
-from shb_view.groups import Gathered, place_of
+from shb_view.groups import Gathered
 from shb_view.names import by_numbers, readable
 from shb_view.source import Source
 from shb_view.stacks import perhaps_ordered
@@ -128,30 +128,17 @@ def with_run(view, run):
 
 def analysed(shb, file, gathered, progress, room):
     """The races of an open trace: the nearest of each place, with its schedule if these aren't too long."""
-    analyser, nearest = Analyser(shb, file), {}
-
-    def take(race, *accesses):
-        gathered.share(race, *accesses)
-        its = nearest.setdefault(place_of(accesses), race)
-        if (race.second, -race.first) < (its.second, -its.first):
-            nearest[place_of(accesses)] = race
-
-    def take_nearest(race, *accesses):
-        """Of a place the first one is the nearest. These may be very many, so none is kept here."""
-        gathered.share(race, *accesses)
-        place = place_of(accesses)
-        if is_long and place in head.places:
-            gathered.add(race, place, head.places.pop(place))
-
-    head = analyser.head(take)
+    analyser = Analyser(shb, file)
+    head = analyser.head(gathered.share)
     is_sample, given = head.count > MOST_LISTED, NO_REPORT
     is_long = len(head.places) * head.counts.events * NUMBER > MOST_REPORT
-    if is_sample:
-        analyser.list_variables(take_nearest)
+    for race in analyser.nearest() if is_sample or is_long else ():
+        if is_sample:
+            gathered.share(race)
+        if is_long and race.place in head.places:   # of a place the first one is the nearest
+            gathered.add(race, head.places.pop(race.place))
     if is_long:
         given = NO_REPORT._replace(verdict=TOO_LONG)
-        for place, race in sorted(nearest.items(), key=lambda it: (it[1].second, it[1].first)):
-            gathered.add(race, place, head.places[place])
     elif head.count:
         given = Given(FULL, room.enter_context(tempfile.TemporaryFile()), OWN)
         analyser.write(FULL, given.file)
@@ -162,14 +149,14 @@ def analysed(shb, file, gathered, progress, room):
 def of_run(run, asked, file, gathered, room):
     """The races of a run with both accesses in its trace, with schedules if there are any: of those
     in one part."""
-    races = [(race._replace(first=pair[0], second=pair[1]), accesses) for race, accesses in run.races
-             for pair in [run.uses.pair(race.first, race.second)] if pair]
-    near = [(race, accesses) for race, accesses in races if not run.uses.are_apart(race.first, race.second)]
+    races = [race._replace(events=pair) for race in run.races
+             for pair in [run.uses.pair(*race.events)] if pair]
+    near = [race for race in races if not run.uses.are_apart(*race.events)]
     given, found = schedules(asked.shb, file, near, room) if near and asked.has_windows else (NO_REPORT, {})
-    of_near = {(race.first, race.second): found.get((race.first, race.second), race) for race, _ in near}
-    for race, accesses in races:
-        gathered.share(race, *accesses)
-        gathered.add(of_near.get((race.first, race.second), race), place_of(accesses), 0)
+    of_near = {race.events: found.get(race.events, race) for race in near}
+    for race in races:
+        gathered.share(race)
+        gathered.add(of_near.get(race.events, race), 0)
     return Subject(given, run.counts, len(races), False, run.uses.count, run.uses)
 
 
@@ -177,8 +164,8 @@ def schedules(shb, file, races, room):
     """The report of `shb places` on the trace of a recorded run's page, as `shb check` judges it, and its
     races by their events: those of each variable at each place, or of each place alone if these would be too
     long. A schedule has events before the second access alone."""
-    most, every = MOST_REPORT // NUMBER, sum(race.second for race, _ in races)
-    ends = {place_of(accesses): race.second for race, accesses in races}
+    most, every = MOST_REPORT // NUMBER, sum(race.events[1] for race in races)
+    ends = {race.place: race.events[1] for race in races}
     if sum(ends.values()) > most:
         return NO_REPORT._replace(verdict=TOO_LONG), {}
     words = VARIABLES if every <= most else FULL
@@ -187,7 +174,7 @@ def schedules(shb, file, races, room):
         analyser.write(words, report)
         given = Given(words, report, analyser.check(report))
         good = Report(report).races() if given.verdict.is_good else ()
-        return given, {(race.first, race.second): race for race, _ in good}
+        return given, {race.events: race for race in good}
     except Refused as fault:
         return NO_REPORT._replace(verdict=Verdict(None, f"No schedules were made: {fault}")), {}
 
@@ -212,9 +199,8 @@ def open_regular(path):
 def read_report(given, gathered, places, progress):
     """Gathers the nearest races of a report; `places` has how many each place has."""
     size, report = os.fstat(given.file.fileno()).st_size, Report(given.file)
-    for race, accesses in report.races():
-        place = place_of(accesses)
-        gathered.add(race, place, places[place])
+    for race in report.races():
+        gathered.add(race, places[race.place])
         progress.step("reading the report", report.lines.bytes, size)
 
 
@@ -223,8 +209,7 @@ def make_sections(asked, kinds, made, trace, groups, unseen={}):
     first, or uses of a run; the first MOST_DETAILED with their windows if these are asked for."""
     if not groups:
         return 0, []
-    wanted = {access for race in (group.closest() for group in groups)
-              for access in (race.first, race.second)}
+    wanted = {event for group in groups for event in group.closest().events}
     variables = {variable: number for number, group in enumerate(groups) for variable in group.names}
     counting = Counting(variables, wanted, kinds, made.uses)
     try:

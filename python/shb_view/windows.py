@@ -70,8 +70,7 @@ class Moments:
 
 def make_windows(trace, races, counting, order):
     """A window for each race. `order` returns events in the order of a race's schedule, and that schedule."""
-    accesses = {access: event_of(line).thread for race in races
-                for access, line in ((race.first, race.first_line), (race.second, race.second_line))}
+    accesses = {event: access.thread for race in races for event, access in zip(race.events, race.accesses)}
     before = {event for access in accesses for event in counting.noted[access].before}
     forks = {access: counting.begins[thread].event if thread in counting.begins else 0
              for access, thread in accesses.items()}
@@ -100,8 +99,7 @@ def shown_event(number, found, kinds, moment, source):
 
 def window(race, counting, forks, shown, order):
     """What is shown of a race. The last write of an access isn't, since a schedule needn't have it."""
-    accesses = race.first, race.second
-    before, starts = set(), {}
+    accesses, before, starts = race.events, set(), {}
     for access in accesses:
         noted = counting.noted[access]
         before.update(noted.before, (acquire for _, acquire in noted.locks))

@@ -22,7 +22,7 @@ class Code(bytes):
     """A name of the trace or a location, as bytes."""
 
 
-OF_BLOCK = re.compile(rb"( of .+)?#\*(?=$|\+)", re.S)  # what a lock in a block has behind its own name
+OF_BLOCK = rb"(?s)( of .+)?#\*(?=$|\+)"  # what a lock in a block has behind its own name
 
 
 class Own(Code):
@@ -31,7 +31,7 @@ class Own(Code):
 
 def lock_name(lock):
     """A lock, as parts."""
-    return ["its own lock ", Code(OF_BLOCK.sub(b"", lock))] if isinstance(lock, Own) else [Code(lock)]
+    return ["its own lock ", Code(re.sub(OF_BLOCK, b"", lock))] if isinstance(lock, Own) else [Code(lock)]
 
 
 def place(location):

@@ -98,10 +98,10 @@ def read_stacks(text):
 def read_report(text):
     file = io.BytesIO(text)
     try:
-        for race, _ in Report(file).races():
+        for race in Report(file).races():
             if race.schedule is not None:
                 place = file.tell()
-                in_order(file, race, [race.first])
+                in_order(file, race, [race.events[0]])
                 file.seek(place)
     except BadReport as fault:
         assert "\n" not in str(fault)
@@ -202,7 +202,7 @@ class Readers(side_by_side.Case):
         again = b"race 2: 1 3\nfirst T1|w(x)|a.c:1\nsecond T2|w(x)|b.c:2\n"
         text = REPORT.replace(b"schedule 0:\n", again).replace(b"events 2", b"events 3").replace(
             b"races 1", b"races 2").replace(b"place 1: 1", b"place 1: 2")
-        one, other = (accesses for _, accesses in Report(io.BytesIO(text)).races())
+        one, other = (race.accesses for race in Report(io.BytesIO(text)).races())
         self.assertEqual(one, other)
         for before, after, wanted in ((b"second T2|w(x)|b.c:2\nend", b"first T1|w(x)|a.c:1\nend",
                                        "line 13 of the report is `first T1|w(x)|a.c:1`; it should be `second "

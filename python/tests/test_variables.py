@@ -7,7 +7,7 @@ import subprocess
 import farm
 import side_by_side
 from shb_common import analyser, variables
-from shb_common.report import Access, BadReport, Report
+from shb_common.report import Access, BadReport, Race, Report
 
 HEAD = b"shb-report 2\nevents 6 threads 2 locks 0 variables 3\nraces 2\nplaces 1\nplace 1: 2\nat 1\nand 2\n"
 RACE = b"race %d: %d 4\nfirst A|w(%b)|1\nsecond B|w(%b)|2\n"
@@ -40,8 +40,8 @@ class Asked(side_by_side.Case):
                     operation = f"{pick.choice('rw')}({pick.choice('xyz')})"
                 lines.append(f"{thread}|{operation}|{pick.choice(['1', '2', 'a.c:3', ''])}\n")
             text, wanted = "".join(lines).encode(), {}
-            for _, (one, other) in asked(["races", "--list"], text).races():
-                wanted.setdefault((one.location, other.location), set()).add(one.name)
+            for race in asked(["races", "--list"], text).races():
+                wanted.setdefault(race.place, set()).add(race.accesses[0].name)
             found = {(place.first, place.second): set(place.variables)
                      for place in analyser.places_in(asked(analyser.LIST_VARIABLES, text).races())}
             self.assertEqual(found, wanted, text)
@@ -85,5 +85,5 @@ class Names(side_by_side.Case):
                                      (b"a.c:9#3+40!T1", (1, 2),
                                       b"Account[1].balance"), (b"a.c:9#4", (1, 2), b"T+4"),
                                      (b"a.c:9#5", (1, 2), b"a.c:9#5")):
-            found = variables.Found(events, (access(b"T1", b"w", name), access(b"T2", b"r", name)))
-            self.assertEqual(variables.name_of(found, local_of), wanted)
+            race = Race(1, events, (access(b"T1", b"w", name), access(b"T2", b"r", name)), None)
+            self.assertEqual(variables.name_of(race, local_of), wanted)

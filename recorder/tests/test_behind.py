@@ -8,7 +8,7 @@ import recorder
 
 sys.path.insert(0, str(recorder.PYTHON))
 from shb_record import second
-from shb_common.report import Access
+from shb_common.report import Access, Race
 
 # A read of balance without the lock sees what the other thread wrote under it, and so hides the race of tries
 # behind it.
@@ -96,6 +96,6 @@ class Rest(recorder.Case):
         one, other = Access(b"A", b"w", b"x", b"1"), Access(b"B", b"r", b"x", b"2")
         for lines, seen in (([b"A|w(x)|1\n", b"B|r(x)|2\n"], 1),
                             ([b"A|w(x)|1\n", b"B|w(x)|9\n", b"B|r(x)|2\n"], 0)):
-            its = second.Second({(b"1", b"x"), (b"2", b"x")}, [((1, len(lines)), (one, other))])
+            its = second.Second({(b"1", b"x"), (b"2", b"x")}, [Race(1, (1, len(lines)), (one, other), None)])
             its.write_rest(lines, io.BytesIO())
             self.assertEqual(its.seen, [(one, other)] * seen)

@@ -399,6 +399,14 @@ int main(int count, char **words) {
         status, _, said = self.record("-o", "r", folder / "a", "0", "race")
         self.assertEqual((status, "\033" in said, "red\\x1b[31m/a" in said), (66, False, True), said)
 
+    def test_the_program_has_the_descriptors_that_are_passed_on(self):
+        path = self.folder / "passed on"
+        with open(path, "wb") as file:
+            script = f"echo there >&{file.fileno()}; exec {self.program()} 0"
+            ran = recorder.call(recorder.COMMAND, "sh", "-c", script, cwd=self.folder,
+                                env={**os.environ, "SHB": str(recorder.SHB)}, pass_fds=[file.fileno()])
+        self.assertEqual((ran.returncode, path.read_bytes()), (0, b"there\n"), ran.stderr)
+
     def test_words_of_the_program_are_its_own(self):
         status, out, _ = self.record("-o", "r", "--", shutil.which("echo"), "--runs", "--", "-h")
         self.assertEqual((status, out), (125, "--runs -- -h\n"))

@@ -124,11 +124,11 @@ def listed(path, converter):
             recorder.must(recorder.call(recorder.SHB, "places", "--list", "--variables",
                                         input=trace)).stdout))
     found = {}
-    for _, (one, other) in report.races():
-        name = one.name.partition(b"!")[0]
+    for race in report.races():
+        name = race.accesses[0].name.partition(b"!")[0]
         block = BLOCK.fullmatch(name)
         byte = (int(block[1]), int(block[2] or 0)) if block else (0, int(name, 16))
-        found.setdefault((int(one.location, 16), int(other.location, 16)), set()).add(byte)
+        found.setdefault(tuple(int(location, 16) for location in race.place), set()).add(byte)
     return found
 
 
