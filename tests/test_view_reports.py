@@ -11,7 +11,7 @@ import shb
 from viewing import EXAMPLES, MADE, made, sections
 
 from shb_common import words
-from shb_common.report import BadReport, Lines
+from shb_common.report import BadReport, Lines, Report
 
 
 class Taken(program.Case):
@@ -153,4 +153,4 @@ class Refused(program.Case):
     def test_a_report_without_end(self):
         with open("/dev/zero", "rb") as zeros, \
                 self.assertRaisesRegex(BadReport, "line 1 of the report is too long"):
-            Lines(zeros).take(False, "shb-report 2")
+            Report(zeros)

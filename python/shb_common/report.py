@@ -10,8 +10,8 @@ import re
 from shb_common.limits import LINE_ROOM, MOST_LINE
 from shb_common.words import printable
 
-NUMBER = re.compile(rb"[0-9]{1,20}")
-ACCESS = re.compile(rb"([^\n|]+)\|([rw])\(([^\n|]+)\)(?:\|([^\n]*))?\n")
+NUMBER = rb"(0|[1-9][0-9]{0,19})"
+ACCESS = rb"[^\n|]+\|[rw]\([^\n|]+\)(?:\|[^\n]*)?"
 SCHEDULE = re.compile(rb"schedule (0|[1-9][0-9]{0,19}):")
 MOST_EVENTS = 1_000     # of a schedule that is given as a list
 LONGEST = 60        # columns of a line that a refusal shows
@@ -46,82 +46,63 @@ class Race(collections.namedtuple("Race", "number events accesses schedule")):
         return one.thread, other.thread
 
 
+class Form:
+    """The form of some lines that follow each other: of each a pattern, and how it is told."""
+
+    def __init__(self, *lines):
+        self.lines, self.further = lines, range(len(lines) - 1)
+        self.match = re.compile(b"".join(pattern for pattern, _ in lines)).fullmatch
+
+
+HEAD = Form((rb"shb-report 2\n", "shb-report 2"),
+            (rb"events N threads N locks N variables N\n".replace(b"N", NUMBER),
+             "events E threads T locks L variables V"),
+            (rb"races %b\n" % NUMBER, "races R"), (rb"places %b\n" % NUMBER, "places P"))
+PLACE = Form((rb"place N: N\n".replace(b"N", NUMBER), "place {}: C"),
+             (rb"at ([^\n]{0,%d})\n" % MOST_LINE, "at LOCATION"),
+             (rb"and ([^\n]{0,%d})\n" % MOST_LINE, "and LOCATION"))
+RACE = Form((rb"race N: N N\n".replace(b"N", NUMBER), "race {}: I J"),
+            (rb"first (%b)\n" % ACCESS, "first ACCESS"), (rb"second (%b)\n" % ACCESS, "second ACCESS"))
+END = Form((rb"end\n", "end"))
+
+
 class Lines:
     """The lines of a report, one after the other, from where the file stands."""
 
     def __init__(self, file):
         self.file, self.number = file, 0    # of the lines taken
-        # where the next line begins, and where it ends, counted from the report's first byte
-        self.start = self.bytes = 0
-        self.line = b""
-        self.known = {}     # accesses by their lines, most of which come again
-        self.advance()
+        self.start = 0      # where the next line begins, counted from the report's first byte
+        self.line = file.readline(LINE_ROOM)
 
-    def advance(self):
-        self.start = self.bytes
-        self.line = self.file.readline(LINE_ROOM)
-        self.bytes += len(self.line)
+    def take(self, form, number=None):
+        """Goes beyond the next lines, which have this form and this number, if one is given. Returns what the
+        form's patterns take out of them. These lines may be very many."""
+        lines, read = [self.line], self.file.readline
+        for _ in form.further:
+            lines.append(read(LINE_ROOM))
+        text = b"".join(lines)
+        match = form.match(text)
+        if not match or number is not None and int(match[1]) != number:
+            self.refuse(lines, form, number)
+        self.number += len(lines)
+        self.start += len(text)
+        self.line = read(LINE_ROOM)
+        return match.groups()
 
-    def take(self, is_right, form):
-        """Goes beyond the next line, if it is right."""
-        self.number += 1
-        if not is_right:
-            raise BadReport(f"line {self.number} of the report is {said(self.line)}; it should be `{form}`")
-        self.advance()
-
-    def numbers(self, text, form):
-        """The numbers of the next line, which is this text with numbers."""
-        found = [int(digits) for digits in NUMBER.findall(self.line)]
-        self.take(len(found) == text.count(b"%d") and self.line == text % (*found,), form)
-        return found
-
-    def numbered(self, text, number, form):
-        """The numbers of the next line behind this one. These lines may be very many."""
-        words = self.line.split()[2:]
-        found = [int(word) for word in words if word.isdigit()]
-        if len(found) == text.count(b"%d") - 1 and self.line == text % (number, *found):
-            self.take(True, form)
-            return found
-        form = form.format(number)
-        first, *_ = self.numbers(text, form)
-        raise BadReport(f"line {self.number} of the report has the number {first}; it should be `{form}`")
-
-    def location(self, word, form):
-        """What follows a word in the next line."""
-        line = self.line
-        is_short = len(line) <= len(word) + MOST_LINE + 1
-        self.take(is_short and line.startswith(word) and line.endswith(b"\n"), form)
-        return line[len(word):-1]
-
-    def place(self, number):
-        """How many races the place with this number has, and its two locations."""
-        [races] = self.numbered(b"place %d: %d\n", number, "place {}: C")
-        return races, self.location(b"at ", "at LOCATION"), self.location(b"and ", "and LOCATION")
-
-    def accesses(self, number, first, second, events):
-        """Two accesses that conflict: those of the race with this number, of these events of so many."""
-        one, other = self.access(b"first ", "first ACCESS"), self.access(b"second ", "second ACCESS")
-        if not 0 < first < second <= events:
-            raise BadReport(f"race {number} of the report: {first} and {second} aren't two events of the "
-                            "trace, the earlier first")
-        if one.name != other.name or one.thread == other.thread or b"w" not in (one.word, other.word):
-            raise BadReport(f"race {number} of the report: the events {first} and {second} don't conflict")
-        return one, other
-
-    def access(self, word, form):
-        """What follows a word in the next line, an access."""
-        line = self.line
-        match = None if line in self.known else ACCESS.fullmatch(line, len(word))
-        if match:
-            if len(self.known) == MOST_KNOWN:
-                self.known.clear()
-            self.known[line] = Access(*match.groups(b""))
-        self.take(line in self.known and line.startswith(word), form)
-        return self.known[line]
+    def refuse(self, lines, form, number):
+        """Says which of these lines is the first one that isn't right."""
+        for line, (pattern, told) in zip(lines, form.lines):
+            self.number += 1
+            match, told = re.fullmatch(pattern, line), told.format(number)
+            if not match:
+                raise BadReport(f"line {self.number} of the report is {said(line)}; it should be `{told}`")
+            if number is not None and line is lines[0] and int(match[1]) != number:
+                raise BadReport(f"line {self.number} of the report has the number {int(match[1])}; it should "
+                                f"be `{told}`")
 
     def end(self):
         """Takes the last line, after which nothing stands."""
-        self.take(self.line == b"end\n", "end")
+        self.take(END)
         if self.line:
             raise BadReport(f"line {self.number + 1} of the report comes after `end`")
 
@@ -132,12 +113,14 @@ class Lines:
         if SCHEDULE.match(self.line) is None:
             raise BadReport(f"line {self.number} of the report is {said(self.line)}; it should be `schedule "
                             "N: N EVENTS`")
-        while not self.line.endswith(b"\n"):
-            self.advance()
+        while True:
+            is_ended = self.line.endswith(b"\n")
+            self.start += len(self.line)
+            self.line = self.file.readline(LINE_ROOM)
+            if is_ended:
+                return start
             if not self.line:
                 raise BadReport(f"line {self.number} of the report is cut off: a schedule")
-        self.advance()
-        return start
 
 
 def said(line):
@@ -153,20 +136,17 @@ class Report:
     `places`, how many races each pair of locations has."""
 
     def __init__(self, file):
-        self.lines = Lines(file)
-        self.lines.take(self.lines.line == b"shb-report 2\n", "shb-report 2")
-        self.counts = Counts(*self.lines.numbers(b"events %d threads %d locks %d variables %d\n",
-                                                 "events E threads T locks L variables V"))
-        [self.count] = self.lines.numbers(b"races %d\n", "races R")
+        self.lines, self.known = Lines(file), {}    # accesses by their texts, most of which come again
+        *counts, self.count, places = map(int, self.lines.take(HEAD))
+        self.counts = Counts(*counts)
         # the latter is known when the first race is read
-        self.places, self.has_schedules = self.read_places(), False
+        self.places, self.has_schedules = self.read_places(places), False
 
-    def read_places(self):
-        [count] = self.lines.numbers(b"places %d\n", "places P")
+    def read_places(self, count):
         found, locations = {}, {}
         for number in range(1, count + 1):
-            races, first, second = self.lines.place(number)
-            found[locations.setdefault(first, first), locations.setdefault(second, second)] = races
+            _, races, first, second = self.lines.take(PLACE, number)
+            found[locations.setdefault(first, first), locations.setdefault(second, second)] = int(races)
         return found
 
     def races(self):
@@ -187,12 +167,26 @@ class Report:
             raise BadReport("the places that the report begins with aren't those of its races")
 
     def read_race(self, number):
-        first, second = self.lines.numbered(b"race %d: %d %d\n", number, "race {}: I J")
-        accesses = self.lines.accesses(number, first, second, self.counts.events)
+        _, first, second, *texts = self.lines.take(RACE, number)
+        first, second, (one, other) = int(first), int(second), map(self.access, texts)
+        if not 0 < first < second <= self.counts.events:
+            raise BadReport(f"race {number} of the report: {first} and {second} aren't two events of the "
+                            "trace, the earlier first")
+        if one.name != other.name or one.thread == other.thread or b"w" not in (one.word, other.word):
+            raise BadReport(f"race {number} of the report: the events {first} and {second} don't conflict")
         if number == 1:
             self.has_schedules = self.lines.line.startswith(b"schedule ")
         schedule = self.lines.pass_schedule() if self.has_schedules else None
-        return Race(number, (first, second), accesses, schedule)
+        return Race(number, (first, second), (one, other), schedule)
+
+    def access(self, text):
+        if text not in self.known:
+            if len(self.known) == MOST_KNOWN:
+                self.known.clear()
+            thread, operation, *location = text.split(b"|", 2)
+            word, _, name = operation.partition(b"(")
+            self.known[text] = Access(thread, word, name[:-1], b"".join(location))
+        return self.known[text]
 
 
 def in_order(file, race, events):

@@ -201,7 +201,7 @@ def read_report(given, gathered, places, progress):
     size, report = os.fstat(given.file.fileno()).st_size, Report(given.file)
     for race in report.races():
         gathered.add(race, places[race.place])
-        progress.step("reading the report", report.lines.bytes, size)
+        progress.step("reading the report", report.lines.start, size)
 
 
 def make_sections(asked, kinds, made, trace, groups, unseen={}):
