@@ -113,14 +113,13 @@ class Lines:
         if SCHEDULE.match(self.line) is None:
             raise BadReport(f"line {self.number} of the report is {said(self.line)}; it should be `schedule "
                             "N: N EVENTS`")
-        while True:
+        while self.line:
             is_ended = self.line.endswith(b"\n")
             self.start += len(self.line)
             self.line = self.file.readline(LINE_ROOM)
             if is_ended:
                 return start
-            if not self.line:
-                raise BadReport(f"line {self.number} of the report is cut off: a schedule")
+        raise BadReport(f"line {self.number} of the report is cut off: a schedule")
 
 
 def said(line):

@@ -16,8 +16,7 @@ from shb_record.converting import Listing
 
 class Second:
     """`accesses` are those at known places: pairs of a location and a variable, as the trace has them;
-    `races` the known ones. `seen` gets the accesses of those whose second access reads what the first
-    wrote."""
+    `races` the known ones. `seen` gets the accesses of those whose second reads what the first wrote."""
 
     def __init__(self, accesses, races):
         self.accesses, self.seen = accesses, []

@@ -84,7 +84,8 @@ class Gathered:
 
     def add(self, race, races):
         """Takes a race that may be shown, of a place that has so many; 0 where they aren't counted."""
-        pair, place = self.pair_at(race.place), race.place
+        place = race.place
+        pair = self.pair_at(place)
         if not pair.places:
             self.listed.append(pair)
         if not pair.places or shown_first(race) < shown_first(pair.closest):

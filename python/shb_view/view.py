@@ -135,8 +135,9 @@ def analysed(shb, file, gathered, progress, room):
     for race in analyser.nearest() if is_sample or is_long else ():
         if is_sample:
             gathered.share(race)
-        if is_long and race.place in head.places:   # of a place the first one is the nearest
-            gathered.add(race, head.places.pop(race.place))
+        races = head.places.pop(race.place, 0) if is_long else 0
+        if races:   # of a place the first one is the nearest
+            gathered.add(race, races)
     if is_long:
         given = NO_REPORT._replace(verdict=TOO_LONG)
     elif head.count:
