@@ -47,7 +47,6 @@ enum { CHUNK_BYTES = 4 << 20, CHUNKS = 1 << 14 };            /* memory is asked 
 enum { REGION_BYTES = sizeof(cell_region), PAGE_BYTES = CELLS_OF_PAGE * sizeof(cell) };
 enum { REGIONS_BYTES = REGIONS * sizeof(cell_region *), USES_BYTES = USE_SLOTS * sizeof(cell_use) };
 
-int has_cells;
 cell_region **cell_regions;
 cell_use *cell_uses;
 /* how many uses there are, and how many of readers */
@@ -69,7 +68,6 @@ void begin_cells(uint64_t most_bytes) {
     memory_of_keys = most_bytes / 2;
     cell_regions = most_bytes ? new_memory(REGIONS_BYTES + USES_BYTES) : 0;
     cell_uses = (cell_use *)(cell_regions + REGIONS);
-    has_cells = cell_regions != 0;
 }
 
 /* Each of its pieces of memory. */
@@ -82,13 +80,13 @@ static void for_all_memory(int (*step)(void *, size_t)) {
 
 static int unlock(void *at, size_t bytes) { return munlock(at, bytes); }
 
-void unlock_cells(void) { if (has_cells) for_all_memory(unlock); }
+void unlock_cells(void) { if (cell_regions) for_all_memory(unlock); }
 
 void limit_cells(uint64_t bytes) { if (bytes < memory_left) memory_left = bytes; }
 
 void end_cells(void) {
-    if (has_cells) for_all_memory(munmap);
-    has_cells = 0;
+    if (cell_regions) for_all_memory(munmap);
+    cell_regions = 0;
     use_count = readers_count = chunk_count = 0;
     cell_pool = key_pool = (struct pool){0};
     memset(free_tables, 0, sizeof free_tables);

@@ -96,8 +96,7 @@ typedef struct {
     cell_page pages[PAGES_OF_REGION];
 } cell_region;
 
-extern int has_cells;
-extern cell_region **cell_regions;     /* or null */
+extern cell_region **cell_regions;     /* null where there are no cells */
 extern cell_use *cell_uses;
 
 /* Makes the tables, of at most so many bytes for cells; with 0, or without memory, all is recorded. */

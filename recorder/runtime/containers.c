@@ -97,7 +97,7 @@ LIST(4swapERS0_S1_, (list_node *x, list_node *y), (x, y), swaps(x, caller); swap
    writes all of the old one. strings.py says which calls there are. */
 typedef unsigned __int128 two_words;   /* what a call returns, if not where its first word says */
 typedef struct { char *characters; uint64_t length, capacity; } string; /* a short one is in the capacity */
-typedef union { uint64_t n; const char *text; string *s; } word;                 /* an argument */
+typedef union { uint64_t n; const char *text; string *s; } argument;
 typedef struct { uint64_t caller, added; string was; } string_call;
 #define ALL (~0ull)
 #define APART static __attribute__((noinline))      /* two hundred calls are made of them */
@@ -157,10 +157,11 @@ APART void changed(string_call *its, string *s, uint64_t from, uint64_t count) {
 }
 APART void changed_end(string_call *its, string *s) { changed(its, s, least(its->was.length, s->length), 1); }
 
+#define ARGUMENTS argument a, argument b, argument c, argument d, argument e, argument f
 #define STRING(version, name, before, after) \
-    two_words name(word a, word b, word c, word d, word e, word f); \
+    two_words name(ARGUMENTS); \
     __asm__(".symver hooked_" #name ", " #name "@" #version); \
-    PUBLIC two_words hooked_##name(word a, word b, word c, word d, word e, word f) { \
+    PUBLIC two_words hooked_##name(ARGUMENTS) { \
         string_call its = {.caller = CALLER}; \
         int seen = is_seen(its.caller); \
         if (seen) { before; } \

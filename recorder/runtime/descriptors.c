@@ -159,18 +159,22 @@ static void note_message(uint64_t seen, enum operation operation, const struct m
     if (seen && copy_in(&m, given, sizeof m)) note_pieces(seen, operation, m.msg_iov, m.msg_iovlen, bytes);
 }
 
-/* What is sent is read before the post; what is received is written after the wait. */
-#define SENDS(type, name, parameters, arguments, accesses) \
-    PUBLIC type name parameters { \
+/* What is sent is read before the post; what is received is written after the wait. A result is no more than
+   an int has. */
+#define TRANSFERS(name) \
+    WRAPS(ssize_t, name, (int f, void *p, word n, word third, word fourth, word fifth))
+#define TRANSFERRED(name) (int)REAL_AS(name)(f, p, n, third, fourth, fifth)
+#define SENDS(name, accesses) \
+    TRANSFERS(name) { \
         uint64_t seen __attribute__((unused)) = begin_call(CALLER); \
         accesses; \
         note_sent(f, CALLER); \
-        return REAL(name) arguments; \
+        return TRANSFERRED(name); \
     }
-#define RECEIVES(type, name, parameters, arguments, accesses) \
-    PUBLIC type name parameters { \
+#define RECEIVES(name, accesses) \
+    TRANSFERS(name) { \
         let_others_run_at(f); \
-        type r = REAL(name) arguments; \
+        ssize_t r = TRANSFERRED(name); \
         if (r < 0) let_others_run();   /* one of them may have to send it first */ \
         if (r < 0) return r; \
         note_descriptor(OP_WAIT, data_of(f), CALLER); \
@@ -178,42 +182,37 @@ static void note_message(uint64_t seen, enum operation operation, const struct m
         accesses; \
         return r; \
     }
-#define SENDS_BYTES(n) if (seen) READS(p, least(n, MOST_BYTES))
-#define SENDS_PIECES note_pieces(seen, OP_READ, p, n, MOST_BYTES)
+#define SENDS_BYTES if (seen) READS(p, least(n, MOST_BYTES))
+#define SENDS_PIECES note_pieces(seen, OP_READ, p, (int)n, MOST_BYTES)
 #define GETS_BYTES(n) if (seen) WRITES(p, n)
-#define GETS_PIECES note_pieces(seen, OP_WRITE, p, n, r)
-#define GETS_EVENTS GETS_BYTES(r * sizeof *p)
-SENDS(ssize_t, write, (int f, const void *p, size_t n), (f, p, n), SENDS_BYTES(n))
-SENDS(ssize_t, writev, (int f, const struct iovec *p, int n), (f, p, n), SENDS_PIECES)
-SENDS(ssize_t, send, (int f, const void *p, size_t n, int k), (f, p, n, k), SENDS_BYTES(n))
-SENDS(ssize_t, sendmsg, (int f, const struct msghdr *m, int k), (f, m, k),
-      note_message(seen, OP_READ, m, MOST_BYTES))
-SENDS(ssize_t, sendto, (int f, const void *p, size_t n, int k, const struct sockaddr *a, socklen_t l),
-      (f, p, n, k, a, l), SENDS_BYTES(n))
-SENDS(int, sendmmsg, (int f, struct mmsghdr *m, unsigned n, int k), (f, m, n, k),
-      for (unsigned i = 0; i < least(n, IOV_MAX); i++) note_message(seen, OP_READ, &m[i].msg_hdr, MOST_BYTES))
-SENDS(int, eventfd_write, (int f, eventfd_t value), (f, value), )
+#define GETS_PIECES note_pieces(seen, OP_WRITE, p, (int)n, r)
+#define GETS_EVENTS GETS_BYTES(r * sizeof(struct epoll_event))
+SENDS(write, SENDS_BYTES)
+SENDS(writev, SENDS_PIECES)
+SENDS(send, SENDS_BYTES)
+SENDS(sendmsg, note_message(seen, OP_READ, p, MOST_BYTES))
+SENDS(sendto, SENDS_BYTES)
+SENDS(sendmmsg, struct mmsghdr *m = p;
+      for (unsigned i = 0; i < least((unsigned)n, IOV_MAX); i++)
+          note_message(seen, OP_READ, &m[i].msg_hdr, MOST_BYTES))
+SENDS(eventfd_write, )
 PUBLIC int epoll_ctl(int f, int o, int g, struct epoll_event *e) {
     note_descriptor(OP_POST, data_of(f), CALLER);
     return REAL(epoll_ctl)(f, o, g, e);
 }
-RECEIVES(ssize_t, read, (int f, void *p, size_t n), (f, p, n), GETS_BYTES(r))
-RECEIVES(int, eventfd_read, (int f, eventfd_t *p), (f, p), GETS_BYTES(sizeof *p))
-RECEIVES(ssize_t, readv, (int f, const struct iovec *p, int n), (f, p, n), GETS_PIECES)
-RECEIVES(ssize_t, recv, (int f, void *p, size_t n, int k), (f, p, n, k), GETS_BYTES(least(r, n)))
-RECEIVES(ssize_t, recvmsg, (int f, struct msghdr *m, int k), (f, m, k), note_message(seen, OP_WRITE, m, r))
-RECEIVES(int, recvmmsg, (int f, struct mmsghdr *m, unsigned n, int k, struct timespec *d), (f, m, n, k, d),
+RECEIVES(read, GETS_BYTES(r))
+RECEIVES(eventfd_read, GETS_BYTES(sizeof(eventfd_t)))
+RECEIVES(readv, GETS_PIECES)
+RECEIVES(recv, GETS_BYTES(least(r, n)))
+RECEIVES(recvmsg, note_message(seen, OP_WRITE, p, r))
+RECEIVES(recvmmsg, struct mmsghdr *m = p;
          for (int i = 0; i < r; i++) note_message(seen, OP_WRITE, &m[i].msg_hdr, m[i].msg_len))
-RECEIVES(ssize_t, recvfrom, (int f, void *p, size_t n, int k, struct sockaddr *a, socklen_t *l),
-         (f, p, n, k, a, l), GETS_BYTES(least(r, n)))
-RECEIVES(int, epoll_wait, (int f, struct epoll_event *p, int n, int ms), (f, p, n, ms), GETS_EVENTS)
-RECEIVES(int, epoll_pwait, (int f, struct epoll_event *p, int n, int ms, const sigset_t *s), (f, p, n, ms, s),
-         GETS_EVENTS)
-int epoll_pwait2(int, struct epoll_event *, int, deadline, const sigset_t *);     /* glibc 2.35 has it */
-RECEIVES(int, epoll_pwait2, (int f, struct epoll_event *p, int n, deadline d, const sigset_t *s),
-         (f, p, n, d, s), GETS_EVENTS)
+RECEIVES(recvfrom, GETS_BYTES(least(r, n)))
+RECEIVES(epoll_wait, GETS_EVENTS)
+RECEIVES(epoll_pwait, GETS_EVENTS)
+RECEIVES(epoll_pwait2, GETS_EVENTS)
 /* At a place of a file, which is no order: a pipe has none. */
-BEFORE(ssize_t, pwrite, (int f, const void *p, size_t n, off_t at), (f, p, n, at), SENDS_BYTES(n))
+BEFORE(ssize_t, pwrite, (int f, const void *p, size_t n, off_t at), (f, p, n, at), SENDS_BYTES)
 BEFORE(ssize_t, pwritev, (int f, const struct iovec *p, int n, off_t at), (f, p, n, at), SENDS_PIECES)
 AFTER(ssize_t, pread, (int f, void *p, size_t n, off_t at), (f, p, n, at), if (r > 0) WRITES(p, r))
 AFTER(ssize_t, preadv, (int f, const struct iovec *p, int n, off_t at), (f, p, n, at), if (r > 0) GETS_PIECES)
@@ -222,10 +221,10 @@ PUBLIC __typeof__(pwritev) pwritev64 __attribute__((alias("pwritev")));
 PUBLIC __typeof__(pread) pread64 __attribute__((alias("pread")));
 PUBLIC __typeof__(preadv) preadv64 __attribute__((alias("preadv")));
 /* A number that is given again; an accepted connection gets what was done before it was made, too. */
-#define GIVES_NUMBER(name, know, parameters, arguments) \
-    PUBLIC int name parameters { \
+#define GIVES_NUMBER(name, know) \
+    WRAPS(int, name, (word first, word second, word third, word fourth)) { \
         let_others_run(); \
-        int r = REAL(name) arguments; \
+        int r = REAL_AS(name)(first, second, third, fourth); \
         if (r < 0) return r; \
         is_new(r); \
         know; \
@@ -233,10 +232,10 @@ PUBLIC __typeof__(preadv) preadv64 __attribute__((alias("preadv")));
         return r; \
     }
 #define KNOW_ACCEPTED (know_accepted(r), note_descriptor(OP_WAIT, data_of(r), CALLER))
-GIVES_NUMBER(accept, KNOW_ACCEPTED, (int f, struct sockaddr *a, socklen_t *n), (f, a, n))
-GIVES_NUMBER(accept4, KNOW_ACCEPTED, (int f, struct sockaddr *a, socklen_t *n, int k), (f, a, n, k))
-GIVES_NUMBER(socket, , (int d, int k, int p), (d, k, p))
-GIVES_NUMBER(eventfd, , (unsigned v, int k), (v, k))
+GIVES_NUMBER(accept, KNOW_ACCEPTED)
+GIVES_NUMBER(accept4, KNOW_ACCEPTED)
+GIVES_NUMBER(socket, )
+GIVES_NUMBER(eventfd, )
 PUBLIC int connect(int f, const struct sockaddr *a, socklen_t n) {
     note_sent(f, CALLER);
     if (is_small(f)) connects[f] = 1;
@@ -282,15 +281,11 @@ PUBLIC int dup3(int f, int g, int flags) {
     return has_data_of(f, REAL(dup3)(f, g, flags));
 }
 PUBLIC int dup(int f) { return has_data_of(f, REAL(dup)(f)); }
-PUBLIC int fcntl(int f, int command, ...) {
-    va_list more;
-    va_start(more, command);
-    void *argument = va_arg(more, void *);
-    va_end(more);
-    int r = REAL(fcntl)(f, command, argument);
+WRAPS(int, fcntl, (int f, int command, word argument)) {
+    int r = REAL_AS(fcntl)(f, command, argument);
     return command == F_DUPFD || command == F_DUPFD_CLOEXEC ? has_data_of(f, r) : r;
 }
-PUBLIC __typeof__(fcntl) fcntl64 __attribute__((alias("fcntl")));
+PUBLIC __typeof__(as_fcntl) as_fcntl64 __asm__("fcntl64") __attribute__((alias("fcntl")));
 
 PUBLIC int close_range(unsigned first, unsigned last, int flags) {
     unsigned ours = next_kept(first);

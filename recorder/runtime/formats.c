@@ -60,17 +60,15 @@ static size_t wide_text(const wchar_t *s, size_t most) {
 }
 
 /* A function with its arguments one by one, and the one that takes a list of them, `more`; r is what it
-   returns. By their symbols, for a header may give the functions of the C standard other names. */
+   returns. */
 #define ALL(...) __VA_ARGS__
 #define IN_BOTH_FORMS(name, vname, parameters, ...) \
-    int as_##vname(ALL parameters, va_list more) __asm__(#vname); \
-    PUBLIC int as_##vname(ALL parameters, va_list more) { \
+    WRAPS(int, vname, (ALL parameters, va_list more)) { \
         uint64_t seen = begin_call(CALLER); \
         __VA_ARGS__ \
         return r; \
     } \
-    int as_##name(ALL parameters, ...) __asm__(#name); \
-    PUBLIC int as_##name(ALL parameters, ...) { \
+    WRAPS(int, name, (ALL parameters, ...)) { \
         uint64_t seen = begin_call(CALLER); \
         va_list more; \
         va_start(more, format); \
@@ -106,7 +104,7 @@ static void note_output(uint64_t seen, const char *format, va_list given) {
 #define OUTPUTS(vname, arguments, sends, ...) \
         if (seen) note_output(seen, format, more); \
         if (seen) { sends; } \
-        int r = REAL_OF_NAME(#vname, __typeof__(&as_##vname))(ALL arguments, more); \
+        int r = REAL_AS(vname)(ALL arguments, more); \
         if (seen && r >= 0) { __VA_ARGS__; }
 /* What -D_FORTIFY_SOURCE makes of each has further arguments before the format. */
 #define PRINTS(name, to, its, checks, passed, sends, ...) \
@@ -153,7 +151,7 @@ static void note_input(uint64_t seen, const char *format, va_list more, int stor
         va_list given; \
         va_copy(given, more); \
         if (seen) { __VA_ARGS__; } \
-        int r = REAL_OF_NAME(#vname, __typeof__(&as_##vname))(ALL arguments, more); \
+        int r = REAL_AS(vname)(ALL arguments, more); \
         if (seen) { gets; } \
         if (seen && r >= 0) note_input(seen, format, given, r); \
         va_end(given);

@@ -117,14 +117,12 @@ AFTER(char *, strtok_r, (char *s, const char *set, char **rest), (s, set, rest),
       if (r) READS(r, text(r));
       if (r && *rest == r + text(r)) WRITES(*rest - 1, 1))
 
-/* By their symbols, for a header may give the first of each pair the name of the second. Of a base that there
-   isn't, nothing is said of the end. */
+/* Of a base that there isn't, nothing is said of the end. */
 #define NUMBER(type, name) \
-    type as_##name(const char *s, char **end, int base) __asm__(#name); \
-    PUBLIC type as_##name(const char *s, char **end, int base) { \
+    WRAPS(type, name, (const char *s, char **end, int base)) { \
         uint64_t seen = begin_call(CALLER); \
         char *stop; \
-        type r = REAL_OF_NAME(#name, __typeof__(&as_##name))(s, end ? end : &stop, base); \
+        type r = REAL_AS(name)(s, end ? end : &stop, base); \
         if (!seen || base < 0 || base == 1 || base > 36) return r; \
         READS(s, up_to(s, end ? *end : stop) + 1); \
         WRITES(end, sizeof *end); \

@@ -52,14 +52,9 @@ PUBLIC int prlimit64(pid_t, enum __rlimit_resource, const struct rlimit64 *,
 /* ---- seccomp: a system call of ours that isn't allowed may kill the program ---- */
 static void will_limit_calls(void) { stop_recording("the program limits its system calls (seccomp)"); }
 
-PUBLIC int prctl(int option, ...) {
-    va_list more;
-    va_start(more, option);
-    unsigned long a = va_arg(more, long), b = va_arg(more, long), c = va_arg(more, long),
-        d = va_arg(more, long);
-    va_end(more);
+WRAPS(int, prctl, (int option, word a, word b, word c, word d)) {
     if (option == PR_SET_SECCOMP) will_limit_calls();
-    int result = REAL(prctl)(option, a, b, c, d);
+    int result = REAL_AS(prctl)(option, a, b, c, d);
     if (option == PR_SET_NAME && !result) note_name(pthread_self(), (const char *)a);
     return result;
 }
@@ -96,15 +91,11 @@ static void note_waited(const void *word, long result, uint64_t caller) {
         note_bytes(YIELDS_BY_LIST, OP_ATOMIC_LOAD, word, inside, caller);
 }
 
-PUBLIC long syscall(long number, ...) {
-    va_list more;
-    va_start(more, number);
-    long a = va_arg(more, long), b = va_arg(more, long), c = va_arg(more, long), result;
-    long d = va_arg(more, long), e = va_arg(more, long), f = va_arg(more, long);
-    va_end(more);
+WRAPS(long, syscall, (long number, word a, word b, word c, word d, word e, word f)) {
+    long result;
     if (number == SYS_seccomp) will_limit_calls();
     if (often_waits(number, b)) let_others_run();
-    register long r10 __asm__("r10") = d, r8 __asm__("r8") = e, r9 __asm__("r9") = f;
+    register word r10 __asm__("r10") = d, r8 __asm__("r8") = e, r9 __asm__("r9") = f;
     __asm__ volatile("syscall" : "=a"(result)
                      : "a"(number), "D"(a), "S"(b), "d"(c), "r"(r10), "r"(r8), "r"(r9) : "rcx", "r11",
                      "memory");

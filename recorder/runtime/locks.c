@@ -3,104 +3,92 @@
 #include <semaphore.h>
 #include <threads.h>
 
-#define TAKES(name, operation, object, busy, quick, done, parameters, arguments) \
-    TAKES_BY(int, name, operation, object, REAL(name) arguments, busy, quick, done, parameters)
-#define TRIES(name, operation, object, busy, done, parameters, arguments) \
-    TRIES_BY(int, name, operation, object, REAL(name) arguments, busy, done, parameters)
-#define GIVES(name, operation, object, size, parameters, arguments) \
-    GIVES_BY(int, name, operation, object, size, REAL(name) arguments, parameters)
 /* BEGINS: makes an object; while there are threads that is a write of it, too. */
-#define BEGINS(name, operation, object, size, parameters, arguments) \
-    PUBLIC int name parameters { \
+#define BEGINS(name, operation, size) \
+    ORDERS(int, name) { \
         thread *t = enter(MAY_YIELD); \
         if (t && others && !tells_its_own_order(CALLER)) put(t, OP_DESTROY, object, 0, CALLER); \
         if (t) put(t, operation, object, size, CALLER); \
-        int r = REAL(name) arguments; \
+        int r = CALLED(name); \
         if (t) leave(t); \
         return r; \
     }
 /* ENDS: recorded before it; it may wait for those who still use the object. */
-#define ENDS(type, name, parameter) \
-    PUBLIC type name(parameter *object) { \
+#define ENDS(name) \
+    ORDERS(word, name) { \
         if (others && !tells_its_own_order(CALLER)) note(OP_DESTROY, object, CALLER); \
         let_others_run(); \
-        return REAL(name)(object); \
+        return CALLED(name); \
     }
-#define LOCKS(name, operation, quick, parameters, arguments) \
-    TAKES(name, operation, m, r == EBUSY, REAL(quick)(m), !r || r == EOWNERDEAD, parameters, arguments)
-#define TRIES_LOCK(name, operation, type) \
-    TRIES(name, operation, m, EBUSY, !r || r == EOWNERDEAD, (type *m), (m))
+#define LOCKS(name, operation, quick) \
+    TAKES_BY(int, name, operation, CALLED(name), r == EBUSY, REAL(quick)(object), !r || r == EOWNERDEAD)
+#define TRIES_LOCK(name, operation) TRIES_BY(int, name, operation, EBUSY, !r || r == EOWNERDEAD)
 
 /* ---- locks ---- */
 /* All calls that take one, of which `try` never waits. */
 #define LOCKS_IN_ALL_WAYS(type, lock, operation) \
-    LOCKS(pthread_##type##_##lock, operation, pthread_##type##_try##lock, (pthread_##type##_t *m), (m)) \
-    LOCKS(pthread_##type##_timed##lock, operation, pthread_##type##_try##lock, \
-          (pthread_##type##_t *m, deadline d), (m, d)) \
-    LOCKS(pthread_##type##_clock##lock, operation, pthread_##type##_try##lock, \
-          (pthread_##type##_t *m, clockid_t c, deadline d), (m, c, d)) \
-    TRIES_LOCK(pthread_##type##_try##lock, operation, pthread_##type##_t)
+    LOCKS(pthread_##type##_##lock, operation, pthread_##type##_try##lock) \
+    LOCKS(pthread_##type##_timed##lock, operation, pthread_##type##_try##lock) \
+    LOCKS(pthread_##type##_clock##lock, operation, pthread_##type##_try##lock) \
+    TRIES_LOCK(pthread_##type##_try##lock, operation)
 LOCKS_IN_ALL_WAYS(mutex, lock, OP_LOCK)
-GIVES(pthread_mutex_unlock, OP_UNLOCK, m, 0, (pthread_mutex_t *m), (m))
-BEGINS(pthread_mutex_init, OP_LOCK_INIT, m, 0, (pthread_mutex_t *m, const pthread_mutexattr_t *a), (m, a))
-ENDS(int, pthread_mutex_destroy, pthread_mutex_t)
+GIVES(pthread_mutex_unlock, OP_UNLOCK)
+BEGINS(pthread_mutex_init, OP_LOCK_INIT, 0)
+ENDS(pthread_mutex_destroy)
 
 LOCKS_IN_ALL_WAYS(rwlock, rdlock, OP_READ_LOCK)
 LOCKS_IN_ALL_WAYS(rwlock, wrlock, OP_WRITE_LOCK)
-GIVES(pthread_rwlock_unlock, OP_RW_UNLOCK, m, 0, (pthread_rwlock_t *m), (m))
-BEGINS(pthread_rwlock_init, OP_LOCK_INIT, m, 0, (pthread_rwlock_t *m, const pthread_rwlockattr_t *a), (m, a))
-ENDS(int, pthread_rwlock_destroy, pthread_rwlock_t)
+GIVES(pthread_rwlock_unlock, OP_RW_UNLOCK)
+BEGINS(pthread_rwlock_init, OP_LOCK_INIT, 0)
+ENDS(pthread_rwlock_destroy)
 
-TRIES_LOCK(pthread_spin_trylock, OP_LOCK, pthread_spinlock_t)
-GIVES(pthread_spin_unlock, OP_UNLOCK, m, 0, (pthread_spinlock_t *m), (m))
-BEGINS(pthread_spin_init, OP_LOCK_INIT, m, 0, (pthread_spinlock_t *m, int shared), (m, shared))
-ENDS(int, pthread_spin_destroy, pthread_spinlock_t)
-TAKES_BY_TRYING(int, pthread_spin_lock, OP_LOCK, REAL(pthread_spin_lock)(m), !REAL(pthread_spin_trylock)(m),
-                syscall(SYS_sched_yield), (pthread_spinlock_t *m))
+TAKES_BY_TRYING(pthread_spin_lock, OP_LOCK, !REAL(pthread_spin_trylock)(object), syscall(SYS_sched_yield))
+TRIES_LOCK(pthread_spin_trylock, OP_LOCK)
+GIVES(pthread_spin_unlock, OP_UNLOCK)
+BEGINS(pthread_spin_init, OP_LOCK_INIT, 0)
+ENDS(pthread_spin_destroy)
 
-#define C11_LOCKS(name, parameters, arguments) \
-    TAKES(name, OP_LOCK, m, r == thrd_busy, REAL(mtx_trylock)(m), r == thrd_success, parameters, arguments)
-C11_LOCKS(mtx_lock, (mtx_t *m), (m))
-C11_LOCKS(mtx_timedlock, (mtx_t *m, deadline d), (m, d))
-TRIES(mtx_trylock, OP_LOCK, m, thrd_busy, r == thrd_success, (mtx_t *m), (m))
-GIVES(mtx_unlock, OP_UNLOCK, m, 0, (mtx_t *m), (m))
-BEGINS(mtx_init, OP_LOCK_INIT, m, 0, (mtx_t *m, int type), (m, type))
-ENDS(void, mtx_destroy, mtx_t)
+#define C11_LOCKS(name) \
+    TAKES_BY(int, name, OP_LOCK, CALLED(name), r == thrd_busy, REAL(mtx_trylock)(object), r == thrd_success)
+C11_LOCKS(mtx_lock)
+C11_LOCKS(mtx_timedlock)
+TRIES_BY(int, mtx_trylock, OP_LOCK, thrd_busy, r == thrd_success)
+GIVES(mtx_unlock, OP_UNLOCK)
+BEGINS(mtx_init, OP_LOCK_INIT, 0)
+ENDS(mtx_destroy)
 
-TAKES_BY(void, flockfile, OP_LOCK, f, DONE(REAL(flockfile)(f)), r, REAL(ftrylockfile)(f), 1, (FILE *f))
-TRIES_BY(int, ftrylockfile, OP_LOCK, f, REAL(ftrylockfile)(f), EBUSY, !r, (FILE *f))
-GIVES_BY(void, funlockfile, OP_UNLOCK, f, 0, DONE(REAL(funlockfile)(f)), (FILE *f))
+TAKES_BY(void, flockfile, OP_LOCK, DONE(CALLED(flockfile)), r, REAL(ftrylockfile)(object), 1)
+TRIES_BY(int, ftrylockfile, OP_LOCK, EBUSY, !r)
+GIVES(funlockfile, OP_UNLOCK)
 
 /* ---- conditions: the mutex is given up and taken again; a signal orders nothing by itself ---- */
-#define WAITS(name, parameters, arguments) \
-    WAITS_BY(int, name, OP_LOCK, OP_UNLOCK, REAL(pthread_mutex_unlock)((void *)m), \
-        REAL(pthread_mutex_trylock)((void *)m) != EBUSY, \
-             REAL(pthread_mutex_lock)((void *)m), REAL(name) arguments, r, parameters)
-WAITS(pthread_cond_wait, (pthread_cond_t *c, pthread_mutex_t *m), (c, m))
-WAITS(pthread_cond_timedwait, (pthread_cond_t *c, pthread_mutex_t *m, deadline d), (c, m, d))
-WAITS(pthread_cond_clockwait, (pthread_cond_t *c, pthread_mutex_t *m, clockid_t k, deadline d), (c, m, k, d))
-GIVES(pthread_cond_signal, OP_USE, c, 0, (pthread_cond_t *c), (c))
-GIVES(pthread_cond_broadcast, OP_USE, c, 0, (pthread_cond_t *c), (c))
-ENDS(int, pthread_cond_destroy, pthread_cond_t)
-WAITS(cnd_wait, (cnd_t *c, mtx_t *m), (c, m))
-WAITS(cnd_timedwait, (cnd_t *c, mtx_t *m, deadline d), (c, m, d))
-GIVES(cnd_signal, OP_USE, c, 0, (cnd_t *c), (c))
-GIVES(cnd_broadcast, OP_USE, c, 0, (cnd_t *c), (c))
-ENDS(void, cnd_destroy, cnd_t)
+#define WAITS(name) \
+    WAITS_BY(int, name, OP_LOCK, OP_UNLOCK, REAL(pthread_mutex_unlock)(lock), \
+             REAL(pthread_mutex_trylock)(lock) != EBUSY, REAL(pthread_mutex_lock)(lock), CALLED(name), r)
+WAITS(pthread_cond_wait)
+WAITS(pthread_cond_timedwait)
+WAITS(pthread_cond_clockwait)
+GIVES(pthread_cond_signal, OP_USE)
+GIVES(pthread_cond_broadcast, OP_USE)
+ENDS(pthread_cond_destroy)
+WAITS(cnd_wait)
+WAITS(cnd_timedwait)
+GIVES(cnd_signal, OP_USE)
+GIVES(cnd_broadcast, OP_USE)
+ENDS(cnd_destroy)
 
 /* ---- semaphores, barriers, once ---- */
-#define WAITS_FOR_TOKEN(name, parameters, arguments) \
-    TAKES(name, OP_WAIT, s, r && errno == EAGAIN, REAL(sem_trywait)(s), !r, parameters, arguments)
-WAITS_FOR_TOKEN(sem_wait, (sem_t *s), (s))
-WAITS_FOR_TOKEN(sem_timedwait, (sem_t *s, deadline d), (s, d))
-WAITS_FOR_TOKEN(sem_clockwait, (sem_t *s, clockid_t c, deadline d), (s, c, d))
-TRIES(sem_trywait, OP_WAIT, s, (errno = EAGAIN, -1), !r, (sem_t *s), (s))
-GIVES(sem_post, OP_POST, s, 0, (sem_t *s), (s))
-ENDS(int, sem_destroy, sem_t)
+#define WAITS_FOR_TOKEN(name) \
+    TAKES_BY(int, name, OP_WAIT, CALLED(name), r && errno == EAGAIN, REAL(sem_trywait)(object), !r)
+WAITS_FOR_TOKEN(sem_wait)
+WAITS_FOR_TOKEN(sem_timedwait)
+WAITS_FOR_TOKEN(sem_clockwait)
+TRIES_BY(int, sem_trywait, OP_WAIT, (errno = EAGAIN, -1), !r)
+GIVES(sem_post, OP_POST)
+ENDS(sem_destroy)
 
-BEGINS(pthread_barrier_init, OP_BARRIER_INIT, b, n,
-       (pthread_barrier_t *b, const pthread_barrierattr_t *a, unsigned n), (b, a, n))
-ENDS(int, pthread_barrier_destroy, pthread_barrier_t)
+BEGINS(pthread_barrier_init, OP_BARRIER_INIT, (unsigned)third)
+ENDS(pthread_barrier_destroy)
 PUBLIC int pthread_barrier_wait(pthread_barrier_t *b) {
     thread *t = enter(MAY_YIELD);
     if (!t) return REAL(pthread_barrier_wait)(b);

@@ -75,12 +75,8 @@ PUBLIC void *mmap(void *at, size_t n, int protection, int flags, int f, off_t of
 }
 PUBLIC void *mmap64(void *, size_t, int, int, int, off_t) __attribute__((alias("mmap")));
 
-PUBLIC void *mremap(void *old, size_t old_size, size_t size, int flags, ...) {
-    va_list more;
-    va_start(more, flags);
-    char *p = (char *)syscall(SYS_mremap, old, old_size, size, flags,
-                              flags & MREMAP_FIXED ? va_arg(more, void *) : 0);
-    va_end(more);
+WRAPS(void *, mremap, (void *old, size_t old_size, size_t size, int flags, word fixed)) {
+    char *p = (char *)syscall(SYS_mremap, old, old_size, size, flags, flags & MREMAP_FIXED ? fixed : 0);
     size_t kept = p == old ? old_size : 0;
     if (p != MAP_FAILED && size > kept) allocated(p + kept, size - kept, CALLER);
     return p;

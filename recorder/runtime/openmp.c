@@ -67,33 +67,21 @@ static void end_region(team *m) {
     free(m);
 }
 
-#define REGION_BY(type, name, real, parameters) \
-    PUBLIC type name parameters { \
+#define CALLED(name) REAL(name)(run_region, m, a, b, c, d, e, g)
+#define REGION_BY(type, name, real) \
+    PUBLIC type name(function f, void *data, word a, word b, word c, word d, word e, word g) { \
         team *m = begin_region(f, data, CALLER); \
         __typeof__(real) r = (real); \
         end_region(m); \
         return (type)r; \
     }
-#define REGION(name, parameters, arguments) REGION_BY(void, name, DONE(REAL(name) arguments), parameters)
-#define LOOP(name) \
-    REGION(name, (function f, void *data, unsigned n, long a, long b, long i, long c, unsigned k), \
-           (run_region, m, n, a, b, i, c, k))
-#define RUNTIME_LOOP(name) \
-    REGION(name, (function f, void *data, unsigned n, long a, long b, long i, unsigned k), \
-           (run_region, m, n, a, b, i, k))
-REGION(GOMP_parallel, (function f, void *data, unsigned n, unsigned k), (run_region, m, n, k))
-REGION(GOMP_parallel_sections, (function f, void *data, unsigned n, unsigned c, unsigned k),
-       (run_region, m, n, c, k))
-REGION_BY(unsigned, GOMP_parallel_reductions, REAL(GOMP_parallel_reductions)(run_region, m, n, k),
-          (function f, void *data, unsigned n, unsigned k))
-LOOP(GOMP_parallel_loop_static)
-LOOP(GOMP_parallel_loop_dynamic)
-LOOP(GOMP_parallel_loop_guided)
-LOOP(GOMP_parallel_loop_nonmonotonic_dynamic)
-LOOP(GOMP_parallel_loop_nonmonotonic_guided)
-RUNTIME_LOOP(GOMP_parallel_loop_runtime)
-RUNTIME_LOOP(GOMP_parallel_loop_nonmonotonic_runtime)
-RUNTIME_LOOP(GOMP_parallel_loop_maybe_nonmonotonic_runtime)
+#define REGION(name) REGION_BY(void, name, DONE(CALLED(name)))
+REGION(GOMP_parallel) REGION(GOMP_parallel_sections)
+REGION_BY(unsigned, GOMP_parallel_reductions, CALLED(GOMP_parallel_reductions))
+REGION(GOMP_parallel_loop_static) REGION(GOMP_parallel_loop_dynamic) REGION(GOMP_parallel_loop_guided)
+REGION(GOMP_parallel_loop_nonmonotonic_dynamic) REGION(GOMP_parallel_loop_nonmonotonic_guided)
+REGION(GOMP_parallel_loop_runtime) REGION(GOMP_parallel_loop_nonmonotonic_runtime)
+REGION(GOMP_parallel_loop_maybe_nonmonotonic_runtime)
 
 /* ---- barriers: by themselves, and at the ends of loops and sections; all tasks are done after them ---- */
 static void arrive(uint64_t caller) {
@@ -107,18 +95,15 @@ static void depart(uint64_t caller) {
     note(OP_WAIT, now->team->tasks, caller);
 }
 
-#define BARRIER_BY(type, name, real, parameters) \
-    PUBLIC type name parameters { \
+#define BARRIER(name) \
+    PUBLIC word name(word data) { \
         arrive(CALLER); \
-        int r = (real); \
+        word r = REAL(name)(data); \
         depart(CALLER); \
-        return (type)r; \
+        return r; \
     }
-#define BARRIER(name) BARRIER_BY(void, name, DONE(REAL(name)()), (void))
-#define CANCEL_BARRIER(name) BARRIER_BY(bool, name, REAL(name)(), (void))
 BARRIER(GOMP_barrier) BARRIER(GOMP_loop_end) BARRIER(GOMP_sections_end)
-CANCEL_BARRIER(GOMP_barrier_cancel) CANCEL_BARRIER(GOMP_loop_end_cancel)
-CANCEL_BARRIER(GOMP_sections_end_cancel)
+BARRIER(GOMP_barrier_cancel) BARRIER(GOMP_loop_end_cancel) BARRIER(GOMP_sections_end_cancel)
 
 /* The thread that gets null does the work and gives its data to the others, which wait. */
 PUBLIC void *GOMP_single_copy_start(void) {
@@ -127,7 +112,7 @@ PUBLIC void *GOMP_single_copy_start(void) {
     if (r) depart(CALLER);
     return r;
 }
-BARRIER_BY(void, GOMP_single_copy_end, DONE(REAL(GOMP_single_copy_end)(data)), (void *data))
+BARRIER(GOMP_single_copy_end)
 
 /* ---- locks ---- */
 static object critical, atomic;
@@ -136,15 +121,15 @@ static void note_lock(enum operation operation, void *lock, uint64_t caller) {
     if (lock) note(operation, lock, caller);
 }
 
-#define LOCKS(takes, gives, parameters, arguments, lock) \
-    PUBLIC void takes parameters { \
+#define LOCKS(takes, gives, its) \
+    PUBLIC void takes(void *lock) { \
         let_others_run(); \
-        REAL(takes) arguments; \
-        note_lock(OP_LOCK, lock, CALLER); \
+        REAL(takes)(lock); \
+        note_lock(OP_LOCK, its, CALLER); \
     } \
-    PUBLIC void gives parameters { \
-        note_lock(OP_UNLOCK, lock, CALLER); \
-        REAL(gives) arguments; \
+    PUBLIC void gives(void *lock) { \
+        note_lock(OP_UNLOCK, its, CALLER); \
+        REAL(gives)(lock); \
     }
 #define TESTS_LOCK(name) \
     PUBLIC int name(void *lock) { \
@@ -154,13 +139,13 @@ static void note_lock(enum operation operation, void *lock, uint64_t caller) {
         return r; \
     }
 #define ORDERED (now ? (void *)now->team->ordered : 0)
-LOCKS(GOMP_critical_start, GOMP_critical_end, (void), (), critical)
-LOCKS(GOMP_critical_name_start, GOMP_critical_name_end, (void **lock), (lock), lock)
-LOCKS(GOMP_atomic_start, GOMP_atomic_end, (void), (), atomic)
-LOCKS(GOMP_ordered_start, GOMP_ordered_end, (void), (), ORDERED)
-LOCKS(omp_set_lock, omp_unset_lock, (void *lock), (lock), lock)
+LOCKS(GOMP_critical_start, GOMP_critical_end, critical)
+LOCKS(GOMP_critical_name_start, GOMP_critical_name_end, lock)
+LOCKS(GOMP_atomic_start, GOMP_atomic_end, atomic)
+LOCKS(GOMP_ordered_start, GOMP_ordered_end, ORDERED)
+LOCKS(omp_set_lock, omp_unset_lock, lock)
 TESTS_LOCK(omp_test_lock)
-LOCKS(omp_set_nest_lock, omp_unset_nest_lock, (void *lock), (lock), lock)
+LOCKS(omp_set_nest_lock, omp_unset_nest_lock, lock)
 TESTS_LOCK(omp_test_nest_lock)
 
 /* ---- tasks: a task comes after its creation, and before what waits for it ---- */
@@ -208,15 +193,15 @@ PUBLIC void GOMP_task(function f, void *data, copy_function copy, long size, lon
     REAL(GOMP_task)(run_task, &t, 0, sizeof t, sizeof t, deferred, flags, depend, priority, detach);
 }
 
-#define WAITS_FOR_TASKS(name, parameters, arguments, tasks) \
-    PUBLIC void name parameters { \
+#define WAITS_FOR_TASKS(name, tasks) \
+    PUBLIC void name(word depend) { \
         let_others_run(); \
-        REAL(name) arguments; \
+        REAL(name)(depend); \
         if (now) note(OP_WAIT, tasks, CALLER); \
     }
-WAITS_FOR_TASKS(GOMP_taskwait, (void), (), now->children)
-WAITS_FOR_TASKS(GOMP_taskwait_depend, (void **depend), (depend), now->children)
-WAITS_FOR_TASKS(GOMP_taskgroup_end, (void), (), now->team->tasks)
+WAITS_FOR_TASKS(GOMP_taskwait, now->children)
+WAITS_FOR_TASKS(GOMP_taskwait_depend, now->children)
+WAITS_FOR_TASKS(GOMP_taskgroup_end, now->team->tasks)
 
 /* ---- what isn't seen: each is said once ---- */
 static void tell_of(_Atomic int *told, const char *what) {
@@ -225,23 +210,15 @@ static void tell_of(_Atomic int *told, const char *what) {
              "or missed\n", what);
 }
 
-#define UNSEEN(what, name, parameters, arguments) \
-    PUBLIC void name parameters { \
+#define UNSEEN(what, name) \
+    PUBLIC void name(word a, word b, word c, word d, word e, word f, word g, word h, word i, word j, \
+                     word k) { \
         static _Atomic int told; \
         tell_of(&told, what); \
-        REAL(name) arguments; \
+        REAL(name)(a, b, c, d, e, f, g, h, i, j, k); \
     }
-UNSEEN("taskloop", GOMP_taskloop,
-       (function f, void *data, copy_function copy, long size, long align, unsigned flags, unsigned long n,
-        int priority, long from, long to, long step),
-       (f, data, copy, size, align, flags, n, priority, from, to, step))
-UNSEEN("doacross loops", GOMP_doacross_post, (long *counts), (counts))
-UNSEEN("target regions", GOMP_target,
-       (int device, function f, const void *unused, size_t count, void **addresses, size_t *sizes,
-       unsigned char *kinds), (device, f, unused, count, addresses, sizes, kinds))
-UNSEEN("target regions", GOMP_target_ext,
-       (int device, function f, size_t count, void **addresses, size_t *sizes, unsigned short *kinds,
-       unsigned flags, void **depend, void **arguments),
-       (device, f, count, addresses, sizes, kinds, flags, depend, arguments))
-UNSEEN("teams", GOMP_teams_reg, (function f, void *data, unsigned teams, unsigned most, unsigned flags),
-       (f, data, teams, most, flags))
+UNSEEN("taskloop", GOMP_taskloop)
+UNSEEN("doacross loops", GOMP_doacross_post)
+UNSEEN("target regions", GOMP_target)
+UNSEEN("target regions", GOMP_target_ext)
+UNSEEN("teams", GOMP_teams_reg)

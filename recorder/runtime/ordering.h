@@ -1,8 +1,12 @@
 /* The shapes of the calls that order threads: each is recorded and passed on. A call that takes something (a
    lock, a token) is recorded after it, one that gives something before it; a call that may wait does so
-   without the turn. `real` is the call itself and r its result; if it has none, `real` returns a number. */
+   without the turn. `real` is the call itself and r its result; if it has none, `real` returns a number.
+   The object comes first. */
 #pragma once
 #include "runtime.h"
+
+#define ORDERS(type, name) WRAPS(type, name, (void *object, void *second, word third, word fourth))
+#define CALLED(name) REAL_AS(name)(object, second, third, fourth)
 
 enum { MOST_TRIES = 8 };
 /* A call that may sleep in a replay, where the list has it: with the turn. Handlers of signals run in it,
@@ -16,8 +20,8 @@ enum { MOST_TRIES = 8 };
 })
 /* It may wait; recorded after it, if it was done. The quick form is tried first, for it needs no hand-over.
    In a replay it is busy where it was then; else the one that has it may be about to give it. */
-#define TAKES_BY(type, name, operation, object, real, busy, quick, done, parameters) \
-    PUBLIC type name parameters { \
+#define TAKES_BY(type, name, operation, real, busy, quick, done) \
+    ORDERS(type, name) { \
         thread *t = enter(MAY_YIELD); \
         if (!t) return (type)(real); \
         __typeof__(real) r = 0; \
@@ -33,12 +37,12 @@ enum { MOST_TRIES = 8 };
         return (type)r; \
     }
 /* The same, but never waits. */
-#define TRIES_BY(type, name, operation, object, real, busy, done, parameters) \
-    PUBLIC type name parameters { \
+#define TRIES_BY(type, name, operation, busy, done) \
+    ORDERS(type, name) { \
         thread *t = enter(MAY_YIELD); \
-        if (!t) return real; \
+        if (!t) return CALLED(name); \
         int is_busy = was_unusual(t); \
-        type r = is_busy ? (busy) : (real); \
+        type r = is_busy ? (busy) : CALLED(name); \
         if (done) put(t, operation, object, 0, CALLER); \
         else note_spin(t, CALLER); \
         if (!is_busy && !(done)) note_unusual(t); \
@@ -46,24 +50,26 @@ enum { MOST_TRIES = 8 };
         return r; \
     }
 /* Taken by trying again and again, where the real call would be seen besides, or never sleeps. */
-#define TAKES_BY_TRYING(type, name, operation, real, try, wait, parameters) \
-    PUBLIC type name parameters { \
+#define TAKES_BY_TRYING(name, operation, try, wait) \
+    ORDERS(int, name) { \
         thread *t = enter(MAY_YIELD); \
-        if (!t) return (type)(real); \
+        if (!t) return CALLED(name); \
         while (!(try)) BLOCKING(t, wait); \
-        put(t, operation, m, 0, CALLER); \
+        put(t, operation, object, 0, CALLER); \
         leave(t); \
-        return (type)0; \
+        return 0; \
     }
 /* Recorded before it; never waits. */
-#define GIVES_BY(type, name, operation, object, size, real, parameters) \
-    PUBLIC type name parameters { \
+#define GIVES_BY(name, operation, given, before) \
+    ORDERS(word, name) { \
         thread *t = enter(MAY_YIELD); \
-        if (t) put(t, operation, object, size, CALLER); \
-        __typeof__(real) r = real; \
+        if (t) put(t, operation, given, 0, CALLER); \
+        before; \
+        word r = CALLED(name); \
         if (t) leave(t); \
-        return (type)r; \
+        return r; \
     }
+#define GIVES(name, operation) GIVES_BY(name, operation, object, )
 
 /* A wait without the lock that was given up for it; after it, cancelled or not, that is recorded as taken. */
 struct waking { thread *t; void *lock; enum operation taken; uint64_t caller; int unusual; };
@@ -86,22 +92,23 @@ static inline void has_woken(void *waking_) {
     pthread_cleanup_pop(1); \
     r; \
 })
-/* A wait on the condition c without the lock m, by a call that returns an error, r, or 0. In a replay it
-   wakes when the list says so, as a thread may that nobody woke, and takes the lock with the turn. Where it
-   had no more time it has none left either: that is waited for. */
-#define WAITS_BY(type, name, taken, released, give, try, take, error, result, parameters) \
-    PUBLIC type name parameters { \
+/* A wait on the condition, which comes first, without the lock, which comes second, by a call that returns an
+   error, r, or 0. In a replay it wakes when the list says so, as a thread may that nobody woke, and takes the
+   lock with the turn. Where it had no more time it has none left either: that is waited for. */
+#define WAITS_BY(type, name, taken, released, give, try, take, error, result) \
+    ORDERS(type, name) { \
+        void *lock = second; \
         thread *t = enter(MAY_YIELD); \
         int r = 0; \
-        if (t) put(t, OP_USE, c, 0, CALLER); \
-        if (t) put(t, released, m, 0, CALLER); \
+        if (t) put(t, OP_USE, object, 0, CALLER); \
+        if (t) put(t, released, lock, 0, CALLER); \
         if (!t) r = (error); \
-        else if (!is_replaying || (give)) r = SLEEPING_WITHOUT(t, m, taken, r != 0, error); \
+        else if (!is_replaying || (give)) r = SLEEPING_WITHOUT(t, lock, taken, r != 0, error); \
         else { \
             waits_for_list(t); \
             if (!(try)) BLOCKING(t, DONE(take)); \
             if (was_unusual(t)) r = SLEEPING(t, error); \
-            put(t, taken, m, 0, CALLER); \
+            put(t, taken, lock, 0, CALLER); \
             leave(t); \
         } \
         return (type)(result); \

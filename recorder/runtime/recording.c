@@ -229,7 +229,7 @@ static uint64_t position_now(const thread *t) {
 
 /* A quick hook puts nothing. Each of its steps is a position. */
 uint64_t begin_quick(thread *t) {
-    uint64_t left = others && has_cells ? positions_left() : 0;
+    uint64_t left = others && cell_regions ? positions_left() : 0;
     t->base = (IS_REPEATED | (last_position + 1)) - t->steps;
     return left;
 }
@@ -249,7 +249,7 @@ static uint64_t bytes_of(enum operation operation, uint64_t size) {
 
 static int is_held_back(thread *t, enum operation operation, struct record r, uint64_t bytes) {
     uint64_t position = is_plain(operation) || is_atomic(operation) ? position_now(t) : NO_POSITION;
-    int held = has_cells ? hold_back(t->serial, r, bytes, t->kind, position) : 0;
+    int held = cell_regions ? hold_back(t->serial, r, bytes, t->kind, position) : 0;
     last_position += held == IS_HELD;
     return held;
 }
@@ -400,7 +400,7 @@ static void note_whole(void) {
 
 static void add_state_of(thread *t) {
     forget_told(t);
-    if (t->stack_size) add(t, OP_START, (uint64_t)t->stack, t->stack_size, function_of(t));
+    if (t->stack_size) add(t, OP_START, (uint64_t)t->stack, t->stack_size, (uint64_t)t->function);
     if (*t->name) add_name(t);
 }
 

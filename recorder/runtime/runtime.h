@@ -88,8 +88,7 @@ typedef struct thread {
     char idles;                        /* in a replay: it waits for what others do, so it is in no hurry */
     struct thread *next_ended;
     int exit_rounds;                   /* of destructors of thread-specific data */
-    void *(*function)(void *);         /* what it runs; or of a C11 thread the next */
-    int (*c11_function)(void *);
+    void *(*function)(void *);         /* what it runs: of a C11 thread half of the result counts */
     void *argument;
     void *stack;
     size_t stack_size;
@@ -97,10 +96,6 @@ typedef struct thread {
     const context *told;               /* those that it is in, as the record has it; or null */
     frame *frames, own_frames[];       /* MOST_FRAMES, the outermost first; the second for all but fibers */
 } thread;
-
-static inline uint64_t function_of(const thread *t) {
-    return t->c11_function ? (uint64_t)t->c11_function : (uint64_t)t->function;
-}
 
 typedef const struct timespec *deadline;
 typedef const volatile void *pointer; /* to what a record is about */
@@ -301,6 +296,14 @@ static inline void *function_of_name(struct forwarded *f) {
 #define REAL_IF_ANY(f) ((__typeof__(&f))function_if_any(FORWARDED(#f)))
 #define REAL_OF_NAME(name, type) ((type)function_of_name(FORWARDED(name)))
 #define REAL(f) REAL_OF_NAME(#f, __typeof__(&f))
+/* One that a header declares with other types, or under another name: known by its symbol. */
+#define WRAPS(type, name, parameters) \
+    type as_##name parameters __asm__(#name); \
+    PUBLIC type as_##name parameters
+#define REAL_AS(name) REAL_OF_NAME(#name, __typeof__(&as_##name))
+/* Its arguments, numbers and pointers, are words, whatever their types are: it gets as many as any of its
+   family has, and hands all on. Of a word that is an int the upper half may be anything. */
+typedef uint64_t word;
 
 /* accesses.c: a quick hook (hold.h) of a range whose cells have the use in a first phase. Is it held back? */
 int hold_range(enum operation operation, uint64_t address, uint64_t size, uint64_t caller);

@@ -58,7 +58,7 @@ static void release_robust(const thread *t) {
     if (syscall(SYS_get_robust_list, 0, &all, &size)) return;
     for (uint64_t next = (uint64_t)all->list.next & ~1ull; next != (uint64_t)all; next = *(uint64_t *)next
          & ~1ull)
-        note(OP_UNLOCK, (void *)(next + all->futex_offset), function_of(t) + 1);
+        note(OP_UNLOCK, (void *)(next + all->futex_offset), (uint64_t)t->function + 1);
 }
 
 static void thread_exits(void *t_) {   /* runs again in each round of destructors, until the last */
@@ -110,14 +110,11 @@ static int run_child(void *start_) {
     return start->function(start->argument);
 }
 
-PUBLIC int clone(int (*function)(void *), void *stack, int flags, void *argument, ...) {
+WRAPS(int, clone, (int (*function)(void *), void *stack, int flags, void *argument, word parent, word tls,
+                   word child)) {
     child_start start = {function, argument};
-    va_list more;
-    va_start(more, argument);
-    void *parent = va_arg(more, void *), *tls = va_arg(more, void *), *child = va_arg(more, void *);
-    va_end(more);
-    if (flags & CLONE_VM) return REAL(clone)(function, stack, flags, argument, parent, tls, child);
-    return REAL(clone)(run_child, stack, flags, &start, parent, tls, child);
+    if (flags & CLONE_VM) return REAL_AS(clone)(function, stack, flags, argument, parent, tls, child);
+    return REAL_AS(clone)(run_child, stack, flags, &start, parent, tls, child);
 }
 
 /* It starts threads and nobody records them: it says so, once. */
@@ -192,20 +189,15 @@ __attribute__((constructor(101))) static void begin(void) {
 LEAVES(_exit)
 LEAVES(_Exit)
 
-#define EXECS(name, parameters, arguments) \
-    PUBLIC int name parameters { \
+#define EXECS(name) \
+    WRAPS(int, name, (word program, word words, word environment)) { \
         int own = is_own(); \
         if (own) note_end(own_end()); \
-        int r = REAL(name) arguments; \
+        int r = REAL_AS(name)(program, words, environment); \
         if (own) note_end(""); \
         return r; \
     }
-typedef char *const words[];
-EXECS(execve, (const char *path, words v, words e), (path, v, e))
-EXECS(execv, (const char *path, words v), (path, v))
-EXECS(execvp, (const char *path, words v), (path, v))
-EXECS(execvpe, (const char *path, words v, words e), (path, v, e))
-EXECS(fexecve, (int f, words v, words e), (f, v, e))
+EXECS(execve) EXECS(execv) EXECS(execvp) EXECS(execvpe) EXECS(fexecve)
 
 /* The words of a list up to its null pointer, as an array; `more` is after that. */
 #define EXECS_LISTED(name, call) \
@@ -234,9 +226,9 @@ PUBLIC int atexit(void (*function)(void)) { return __cxa_atexit((void (*)(void *
 /* ---- threads ---- */
 static void *run(void *t_) {
     thread *t = t_;
-    begin_thread(t, function_of(t));
+    begin_thread(t, (uint64_t)t->function);
     pthread_sigmask(SIG_SETMASK, &t->mask, 0);
-    void *result = t->c11_function ? (void *)(long)t->c11_function(t->argument) : t->function(t->argument);
+    void *result = t->function(t->argument);
     let_others_run();
     return result;
 }
@@ -264,10 +256,10 @@ static int is_detached(const pthread_attr_t *attributes, uint64_t caller) {
     return state == PTHREAD_CREATE_DETACHED && !tells_its_own_order(caller) ? IS_DETACHED : 0;
 }
 
-/* Records the fork and starts the thread with what `start` has; NOT_STARTED where it can't have a number. */
+/* Records the fork and starts the thread; NOT_STARTED where it can't have a number. */
 enum { NOT_STARTED = -1 };
-static int create_in_hook(thread *t, thread start, pthread_t *handle, const pthread_attr_t *attributes,
-                          uint64_t caller) {
+static int create_in_hook(thread *t, pthread_t *handle, const pthread_attr_t *attributes,
+                          void *(*function)(void *), void *argument, uint64_t caller) {
     begin_work(t);
     thread *child = new_thread();
     move_to_file();
@@ -277,9 +269,8 @@ static int create_in_hook(thread *t, thread start, pthread_t *handle, const pthr
         stop_recording("a thread too many");
         return NOT_STARTED;
     }
-    child->function = start.function;
-    child->c11_function = start.c11_function;
-    child->argument = start.argument;
+    child->function = function;
+    child->argument = argument;
     child->ends = is_detached(attributes, caller);
     others++;
     put(t, OP_FORK, (void *)(uint64_t)child->number, 0, caller);
@@ -292,10 +283,11 @@ static int create_in_hook(thread *t, thread start, pthread_t *handle, const pthr
     return error;
 }
 
-static int create(thread start, pthread_t *handle, const pthread_attr_t *attributes, uint64_t caller) {
+static int create(pthread_t *handle, const pthread_attr_t *attributes, void *(*function)(void *),
+                  void *argument, uint64_t caller) {
     thread *t = enter(MAY_YIELD);
     if (!t) tell_of_child();
-    int error = t ? create_in_hook(t, start, handle, attributes, caller) : NOT_STARTED;
+    int error = t ? create_in_hook(t, handle, attributes, function, argument, caller) : NOT_STARTED;
     if (t) leave(t);
     if (!error && instrumented(caller)) hook(OP_WRITE, (uint64_t)handle, sizeof *handle, caller);
     return error;
@@ -303,22 +295,22 @@ static int create(thread start, pthread_t *handle, const pthread_attr_t *attribu
 
 PUBLIC int pthread_create(pthread_t *handle, const pthread_attr_t *attributes, void *(*function)(void *),
                           void *argument) {
-    int error = create((thread){.function = function, .argument = argument}, handle, attributes, CALLER);
+    int error = create(handle, attributes, function, argument, CALLER);
     return error == NOT_STARTED ? REAL(pthread_create)(handle, attributes, function, argument) : error;
 }
 
-PUBLIC int thrd_create(thrd_t *handle, thrd_start_t function, void *argument) {
-    int error = create((thread){.c11_function = function, .argument = argument}, handle, 0, CALLER);
-    if (error == NOT_STARTED) return REAL(thrd_create)(handle, function, argument);
+WRAPS(int, thrd_create, (thrd_t *handle, void *(*function)(void *), void *argument)) {
+    int error = create(handle, 0, function, argument, CALLER);
+    if (error == NOT_STARTED) return REAL_AS(thrd_create)(handle, function, argument);
     return !error ? thrd_success : error == EAGAIN || error == ENOMEM ? thrd_nomem : thrd_error;
 }
 
-#define JOIN(name, parameters, arguments) \
-    PUBLIC int name parameters { \
+#define JOIN(name) \
+    WRAPS(int, name, (pthread_t h, word value, word third, word fourth)) { \
         thread *t = enter(MAY_YIELD); \
-        if (!t) return REAL(name) arguments; \
+        if (!t) return REAL_AS(name)(h, value, third, fourth); \
         thread *child = thread_of(h); \
-        int error = BLOCKING(t, REAL(name) arguments); \
+        int error = BLOCKING(t, REAL_AS(name)(h, value, third, fourth)); \
         if (!error && child) { \
             others--; \
             put(t, OP_JOIN, (void *)(uint64_t)child->number, 0, CALLER); \
@@ -327,11 +319,8 @@ PUBLIC int thrd_create(thrd_t *handle, thrd_start_t function, void *argument) {
         leave(t); \
         return error; \
     }
-JOIN(pthread_join, (pthread_t h, void **value), (h, value))
-JOIN(pthread_tryjoin_np, (pthread_t h, void **value), (h, value))
-JOIN(pthread_timedjoin_np, (pthread_t h, void **value, deadline d), (h, value, d))
-JOIN(pthread_clockjoin_np, (pthread_t h, void **value, clockid_t c, deadline d), (h, value, c, d))
-JOIN(thrd_join, (thrd_t h, int *value), (h, value))
+JOIN(pthread_join) JOIN(pthread_tryjoin_np) JOIN(pthread_timedjoin_np) JOIN(pthread_clockjoin_np)
+JOIN(thrd_join)
 
 #define DETACHES(name, type) \
     PUBLIC int name(type h) { \

@@ -11,7 +11,7 @@ static char readers, writers;
         REAL(name)(); \
         note(OP_WAIT, &writers, CALLER); \
     }
-#define ENDS_READING(name) GIVES_BY(void, name, OP_POST, &readers, 0, DONE(REAL(name)()), (void))
+#define ENDS_READING(name) GIVES_BY(name, OP_POST, &readers, )
 #define GIVES_AND_TAKES(name, given, before, taken) \
     PUBLIC void name(void) { \
         note(OP_POST, given, CALLER); \
