@@ -33,7 +33,7 @@ int hold_range(enum operation operation, uint64_t address, uint64_t size, uint64
                                                       words) : 0;
     int is_held = count && hold_quickly(t, words[0], operation, what, IS_PLAIN);
     for (int k = 1; is_held && k < count; k++) *words[k] = *words[0];
-    end_quick_hook(t);
+    end_hook(t);
     if (t->deferred) deliver_deferred(t);
     return is_held;
 }
@@ -55,7 +55,7 @@ void hold_elsewhere(thread *t, cell *c, uint64_t what, uint64_t address) {
     cell_use use = {what, kind_in(c, what, t->kind, t->reader)};
     uint64_t *word = word_of_use(c, address, t->serial, t->number, use);
     int is_held = word && hold_quickly(t, word, operation_of_use(what), what, IS_PLAIN);
-    end_quick_hook(t);
+    end_hook(t);
     if (t->deferred) deliver_deferred(t);
     if (!is_held)
         note_access(operation_of_use(what), address, 1 << (what >> 54) % (1 << LOGARITHM_BITS),

@@ -35,13 +35,6 @@ int hold_quickly(thread *t, uint64_t *word, enum operation operation, uint64_t w
     return 1;
 }
 
-/* Handlers of signals may come from here on. */
-static inline void end_quick_hook(thread *t) {
-    KEEP_ORDER();
-    t->inside = 0;
-    KEEP_ORDER();
-}
-
 static inline int may_be_quick(const thread *t, uint64_t address, uint64_t size) {
     return t && t->limit && size <= GRAIN && address % GRAIN <= GRAIN - size;
 }
@@ -76,11 +69,11 @@ void hook(enum operation operation, uint64_t address, uint64_t size, uint64_t ca
         uint64_t *word = word_near(t, c, operation, what);
         if (!word || !hold_quickly(t, word, operation, what, IS_PLAIN))
             return hold_elsewhere(t, c, what, address);
-        end_quick_hook(t);
+        end_hook(t);
         if (__builtin_expect(t->deferred, 0)) deliver_deferred(t);
         return;
     }
-    end_quick_hook(t);
+    end_hook(t);
     note_access(operation, address, size, caller);
 }
 
@@ -104,13 +97,13 @@ int begin_quick_atomic(enum operation operation, uint64_t address, uint64_t size
     uint64_t *word = c ? word_near(t, c, operation, what) : 0;
     int is_held = word && hold_quickly(t, word, operation, what, repeats);
     if (is_held) t->spins = repeats;
-    else end_quick_hook(t);
+    else end_hook(t);
     return is_held;
 }
 
 static inline void end_quick_atomic(uint64_t last) {
     thread *t = self;
     t->last = last;
-    end_quick_hook(t);
+    end_hook(t);
     if (__builtin_expect(t->deferred, 0)) deliver_deferred(t);
 }

@@ -102,6 +102,13 @@ typedef const volatile void *pointer; /* to what a record is about */
 
 static inline size_t least(size_t n, size_t m) { return n < m ? n : m; }
 
+/* Handlers of signals may come from here on. */
+static inline void end_hook(thread *t) {
+    KEEP_ORDER();
+    t->inside = 0;
+    KEEP_ORDER();
+}
+
 /* Only right after a write's hook may come that of the read of the same copy. */
 static inline int is_write(uint64_t last) { return (last >> 48 & 3) == OP_WRITE; }
 static inline void end_copy(thread *t) { if (is_write(t->last)) t->last = 0; }

@@ -149,7 +149,7 @@ static int has_rights_of_its_own(void) {
     return 1;
 }
 
-__attribute__((constructor(101))) static void begin(void) {
+__attribute__((constructor(102))) static void begin(void) {  /* after look-ups, whose blocks are no hooks */
     if (has_rights_of_its_own()) return;
     restore_preload();
     const char *path = getenv("SHB_RECORD");

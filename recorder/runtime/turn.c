@@ -430,11 +430,12 @@ static void count_quick(thread *t) {
 /* Nothing ends the thread in a hook: it may have the guard, or stand among the waiters. */
 void begin_inside(thread *t) {
     t->inside = 1;
+    KEEP_ORDER();
     if (t->is_cancelled_anywhere) pthread_setcancelstate(PTHREAD_CANCEL_DISABLE, &t->cancel_state);
 }
 
 void end_inside(thread *t) {
-    t->inside = 0;
+    end_hook(t);
     if (t->deferred) deliver_deferred(t);
     if (t->is_cancelled_anywhere) pthread_setcancelstate(t->cancel_state, 0);
 }
