@@ -18,11 +18,10 @@ static __attribute__((noinline)) void note_link(enum operation operation, const 
 #define WRITES_LINK(link) note_link(OP_WRITE, &(link), caller)
 #define VERSIONED(version, name) __attribute__((symver(#name "@" #version)))
 #define HOOKED(version, type, name, parameters, arguments, ...) \
-    type name parameters; \
     PUBLIC VERSIONED(version, name) type hooked_##name parameters { \
         uint64_t caller = CALLER; \
         if (others && instrumented(caller)) { __VA_ARGS__; } \
-        return REAL(name) arguments; \
+        return REAL_OF_NAME(#name, __typeof__(&hooked_##name)) arguments; \
     }
 
 /* ---- trees ---- */
@@ -159,12 +158,11 @@ APART void changed_end(string_call *its, string *s) { changed(its, s, least(its-
 
 #define ARGUMENTS argument a, argument b, argument c, argument d, argument e, argument f
 #define STRING(version, name, before, after) \
-    two_words name(ARGUMENTS); \
     PUBLIC VERSIONED(version, name) two_words hooked_##name(ARGUMENTS) { \
         string_call its = {.caller = CALLER}; \
         int seen = is_seen(its.caller); \
         if (seen) { before; } \
-        two_words r = REAL(name)(a, b, c, d, e, f); \
+        two_words r = REAL_OF_NAME(#name, __typeof__(&hooked_##name))(a, b, c, d, e, f); \
         if (seen) { after; } \
         return r; \
     }

@@ -25,7 +25,6 @@ static inline size_t text_within(const char *s, size_t n) { return least(strnlen
 
 /* A function whose accesses its result r tells. It doesn't wait, so they are recorded where they are made. */
 #define AFTER(type, name, parameters, arguments, ...) \
-    type name parameters; \
     PUBLIC type name parameters { \
         uint64_t seen = begin_call(CALLER); \
         type r = REAL(name) arguments; \
@@ -34,7 +33,6 @@ static inline size_t text_within(const char *s, size_t n) { return least(strnlen
     }
 /* One whose accesses are known before it. */
 #define BEFORE(type, name, parameters, arguments, ...) \
-    type name parameters; \
     PUBLIC type name parameters { \
         uint64_t seen = begin_call(CALLER); \
         if (seen) { __VA_ARGS__; } \

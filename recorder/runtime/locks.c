@@ -134,7 +134,6 @@ PUBLIC void call_once(once_flag *flag, void (*function)(void)) {
 /* of C++ local statics: like an atomic byte */
 /* Without a C++ library behind this one (it is linked into the program, or came by dlopen) it is done here:
    the first byte says that the variable is ready, the second that somebody makes it. */
-int __cxa_guard_acquire(char *), __cxa_guard_release(char *), __cxa_guard_abort(char *);
 static int plain_abort(char *byte) {
     __atomic_store_n(byte + 1, 0, __ATOMIC_RELEASE);
     return 0;
@@ -180,7 +179,6 @@ static void comes_to_its_end(void *value_) {
         note_atomic(OP_ATOMIC_STORE, value->state + STATUS, sizeof(int), CALLER);
     sets_status(value);
 }
-void _ZNSt13__future_base13_State_baseV211_Make_ready6_M_setEv(value_at_end *);
 PUBLIC void _ZNSt13__future_base13_State_baseV211_Make_ready6_M_setEv(value_at_end *value) {
     REAL(_ZNSt13__future_base13_State_baseV211_Make_ready6_M_setEv)(value);
     sets_status = value->function;

@@ -109,7 +109,6 @@ static void *called_new(new_function real, size_t n, size_t align, const void *n
 }
 
 #define NEW(name, parameters, align, nothrow) \
-    void *name parameters; \
     PUBLIC void *name parameters { \
         return called_new((new_function)(void *)REAL_IF_ANY(name), n, align, nothrow, CALLER); \
     }
@@ -122,7 +121,6 @@ NEWS(St11align_val_tRKSt9nothrow_t, (size_t n, size_t align, const void *nothrow
 
 /* What a form has besides the block is handed on. */
 #define DELETES(name) \
-    void name(void *, size_t, size_t); \
     PUBLIC void name(void *p, size_t second, size_t third) { \
         if (has_own_forms() && REAL_IF_ANY(name)) return REAL(name)(p, second, third); \
         will_free(p, CALLER); \

@@ -161,7 +161,6 @@ static int count_modules(struct dl_phdr_info *info, size_t size, void *count) {
     return 1;
 }
 
-void __tsan_init(void);
 static unsigned long long seen_modules;
 
 /* called by each instrumented file's constructor, so also after a dlopen */

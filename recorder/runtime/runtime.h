@@ -97,7 +97,6 @@ typedef struct thread {
     frame *frames, own_frames[];       /* MOST_FRAMES, the outermost first; the second for all but fibers */
 } thread;
 
-typedef const struct timespec *deadline;
 typedef const volatile void *pointer; /* to what a record is about */
 
 static inline size_t least(size_t n, size_t m) { return n < m ? n : m; }
