@@ -3,7 +3,6 @@
 #define _GNU_SOURCE
 #include <fcntl.h>
 #include <pthread.h>
-#include <stdatomic.h>
 #include <stdio.h>
 #include <stdlib.h>
 #include <string.h>
@@ -12,13 +11,12 @@
 
 enum { NUMBERS = 1100, BYTES = 1 << 20 };
 static int count, kept[2];
-static atomic_int begun;               /* it orders nothing */
+static pthread_barrier_t begun;
 static char block[BYTES];
 
 static void *work(void *own) {
     count++;                                                 /* RACE */
-    atomic_fetch_add_explicit(&begun, 1, memory_order_relaxed);
-    while (atomic_load_explicit(&begun, memory_order_relaxed) < 2) ;
+    pthread_barrier_wait(&begun);
     for (volatile int *n = own; *n < 60000; ) ++*n;          /* the record takes more than its first steps */
     return 0;
 }
@@ -41,6 +39,7 @@ int main(int argc, char **argv) {
     if (argc > 3 && rename(argv[3], argv[2])) return 1;      /* away with the record, too */
     int f = open(argc > 3 ? "other" : argv[2], O_RDWR | O_CREAT | O_TRUNC, 0644);
     for (int n = f + 1; n < NUMBERS; n++) dup2(f, n);        /* whatever number is used now is this file's */
+    pthread_barrier_init(&begun, 0, 2);
     pthread_create(&a, 0, work, &kept[0]);
     pthread_create(&b, 0, work, &kept[1]);
     memset(block, 'x', BYTES);

@@ -15,9 +15,11 @@
 
 enum { MEGABYTE = 1 << 20 };
 static int count, kept[2];
+static pthread_barrier_t begun;
 
 static void *work(void *own) {
     count++;                                                 /* RACE */
+    pthread_barrier_wait(&begun);
     for (volatile int *n = own; *n < 60000; ) ++*n;          /* the record takes more than its first steps */
     return 0;
 }
@@ -66,6 +68,7 @@ int main(int argc, char **argv) {
     if (!strcmp(argv[1], "reserve")) failed = reserve();
     if (!strcmp(argv[1], "prctl")) failed = limit_calls(0);
     if (!strcmp(argv[1], "seccomp")) failed = limit_calls(1);
+    pthread_barrier_init(&begun, 0, 2);
     pthread_create(&a, 0, work, &kept[0]);
     pthread_create(&b, 0, work, &kept[1]);
     pthread_join(a, 0);
