@@ -93,7 +93,7 @@ static int read_dimensions(Dwarf_Die *array, u64 *counts, Dwarf_Sword *firsts) {
 }
 
 u64 size_of_type(Dwarf_Die *type) {
-    u64 size = 1, counts[MOST_DIMENSIONS];
+    u64 size = 1, own, counts[MOST_DIMENSIONS];
     Dwarf_Sword firsts[MOST_DIMENSIONS];
     Dwarf_Die e = *type;
     int is_known = plain_type(&e);
@@ -101,11 +101,7 @@ u64 size_of_type(Dwarf_Die *type) {
         for (int k = read_dimensions(&e, counts, firsts); k-- > 0;) size *= counts[k];
         is_known = type_of(&e, &e);
     }
-    int own = is_known ? dwarf_bytesize(&e) : -1, tag = dwarf_tag(&e);
-    if (own < 0
-        && (tag == DW_TAG_pointer_type || tag == DW_TAG_reference_type
-            || tag == DW_TAG_rvalue_reference_type)) own = 8;
-    return is_known && own > 0 ? size * own : 0;
+    return is_known && !dwarf_aggregate_size(&e, &own) ? size * own : 0;
 }
 
 /* Names of the C and C++ library's own members say little: they are told only of what isn't at the begin of

@@ -34,7 +34,6 @@ int hold_range(enum operation operation, uint64_t address, uint64_t size, uint64
     int is_held = count && hold_quickly(t, words[0], operation, what, IS_PLAIN);
     for (int k = 1; is_held && k < count; k++) *words[k] = *words[0];
     end_hook(t);
-    if (t->deferred) deliver_deferred(t);
     return is_held;
 }
 
@@ -50,13 +49,12 @@ __attribute__((noinline)) void note_access(enum operation operation, uint64_t ad
     leave(t);
 }
 
-/* The rest of a quick hook of a use that is new in its cell, or isn't in the line in which most are. */
+/* The rest of a quick hook without a cell, or of a use that is new there or not in the line that has most. */
 void hold_elsewhere(thread *t, cell *c, uint64_t what, uint64_t address) {
-    cell_use use = {what, kind_in(c, what, t->kind, t->reader)};
-    uint64_t *word = word_of_use(c, address, t->serial, t->number, use);
+    cell_use use = {what, c ? kind_in(c, what, t->kind, t->reader) : 0};
+    uint64_t *word = c ? word_of_use(c, address, t->serial, t->number, use) : 0;
     int is_held = word && hold_quickly(t, word, operation_of_use(what), what, IS_PLAIN);
     end_hook(t);
-    if (t->deferred) deliver_deferred(t);
     if (!is_held)
         note_access(operation_of_use(what), address, 1 << (what >> 54) % (1 << LOGARITHM_BITS),
                     what & LOW_48_BITS);

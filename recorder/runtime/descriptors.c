@@ -12,6 +12,7 @@
 enum { DESCRIPTORS = 1 << 16 };
 static int pair_of[DESCRIPTORS];       /* of all that leads to the same data the number of one; plus one */
 static uint64_t key_of[DESCRIPTORS];   /* equal at both ends of a connection or of a named FIFO; or 0 */
+static int keyed;                      /* from this number on none has a key */
 static char is_known[DESCRIPTORS];
 static char connects[DESCRIPTORS];     /* where a connection may come about that isn't known yet */
 
@@ -32,7 +33,8 @@ static void know_by_key(int f, uint64_t key) {
     while (atomic_exchange(&busy, 1)) syscall(SYS_sched_yield);
     is_known[f] = 1;
     connects[f] = 0;
-    for (int other = 0; other < DESCRIPTORS; other++)
+    if (keyed <= f) keyed = f + 1;
+    for (int other = 0; other < keyed; other++)
         if (key_of[other] == key && other != f) pair_of[f] = first_of(other) + 1;
     key_of[f] = key;
     atomic_store(&busy, 0);
@@ -71,11 +73,9 @@ static uint64_t sum_of(const struct sockaddr_storage *a, socklen_t size) {
 }
 
 static void know_connection(int f) {
-    struct sockaddr_storage here, there;
+    struct sockaddr_storage here = {0}, there = {0};
     socklen_t here_size = sizeof here, there_size = sizeof there;
     int saved = errno;
-    memset(&here, 0, sizeof here);
-    memset(&there, 0, sizeof there);
     if (is_small(f) && !getsockname(f, (void *)&here, &here_size)
         && !getpeername(f, (void *)&there, &there_size))
         know_by_key(f, (sum_of(&here, here_size) + sum_of(&there, there_size)) | 1ull << 63);
@@ -84,8 +84,8 @@ static void know_connection(int f) {
 
 /* The call that made the connection may not have returned yet. */
 static void know_accepted(int f) {
-    for (int other = 0; other < DESCRIPTORS; other++)
-        if (connects[other]) know_connection(other);
+    for (const char *c = connects; (c = memchr(c, 1, connects + DESCRIPTORS - c)); c++)
+        know_connection(c - connects);
     know_connection(f);
 }
 

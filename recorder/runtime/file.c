@@ -116,18 +116,15 @@ static int have(int which) {
 }
 
 /* ---- /proc, which a program may lose by chroot: it is opened at first use ---- */
-/* Reads a file of one of the process's threads; returns how many bytes, or an error below 0.  The calls of
-   the C library would be points where a thread may be cancelled. */
+/* Reads a file of one of the process's threads; returns how many bytes, or -1.  The calls of the C library
+   would be points where a thread may be cancelled. */
 int read_task_file(pid_t system_id, const char *leaf, char *text, int size) {
     char name[64];
     snprintf(name, sizeof name, "self/task/%d/%s", system_id, leaf);
-    if (!have(PROC)) return -errno;
-    int f = syscall(SYS_openat, kept[PROC].number, name, O_RDONLY | O_CLOEXEC, 0);
-    if (f < 0) return -errno;
-    int n = syscall(SYS_read, f, text, size - 1), error = errno;
-    syscall(SYS_close, f);
-    if (n < 0) return -error;
-    text[n] = 0;
+    int f = have(PROC) ? syscall(SYS_openat, kept[PROC].number, name, O_RDONLY | O_CLOEXEC, 0) : -1;
+    int n = f < 0 ? -1 : syscall(SYS_read, f, text, size - 1);
+    if (f >= 0) syscall(SYS_close, f);
+    if (n >= 0) text[n] = 0;
     return n;
 }
 

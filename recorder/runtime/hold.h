@@ -65,16 +65,11 @@ void hook(enum operation operation, uint64_t address, uint64_t size, uint64_t ca
     cell *c = usual_cell(t, address);
     uint64_t what = caller + what_of_use((uint64_t)operation << 48 | (uint64_t)__builtin_ctzl(size) << 54,
                                          size < GRAIN ? address : 0);
-    if (c) {
-        uint64_t *word = word_near(t, c, operation, what);
-        if (!word || !hold_quickly(t, word, operation, what, IS_PLAIN))
-            return hold_elsewhere(t, c, what, address);
-        end_hook(t);
-        if (__builtin_expect(t->deferred, 0)) deliver_deferred(t);
-        return;
-    }
+    if (!c) return hold_elsewhere(t, 0, what, address);
+    uint64_t *word = word_near(t, c, operation, what);
+    if (!word || !hold_quickly(t, word, operation, what, IS_PLAIN))
+        return hold_elsewhere(t, c, what, address);
     end_hook(t);
-    note_access(operation, address, size, caller);
 }
 
 /* The hook of an atomic operation, in which it is made. It is held back as an access is: by the turn, which
@@ -105,5 +100,4 @@ static inline void end_quick_atomic(uint64_t last) {
     thread *t = self;
     t->last = last;
     end_hook(t);
-    if (__builtin_expect(t->deferred, 0)) deliver_deferred(t);
 }

@@ -101,11 +101,13 @@ typedef const volatile void *pointer; /* to what a record is about */
 
 static inline size_t least(size_t n, size_t m) { return n < m ? n : m; }
 
-/* Handlers of signals may come from here on. */
+void deliver_deferred(thread *t);
+/* Handlers of signals may come from here on, and those of the ones that came before do. */
 static inline void end_hook(thread *t) {
     KEEP_ORDER();
     t->inside = 0;
     KEEP_ORDER();
+    if (__builtin_expect(t->deferred, 0)) deliver_deferred(t);
 }
 
 /* Only right after a write's hook may come that of the read of the same copy. */
@@ -141,7 +143,6 @@ thread *enter_access(enum yields yields);                    /* to put one recor
 void leave(thread *t);
 void begin_inside(thread *t);          /* no signal is handled, nor the thread cancelled, until it leaves */
 void end_inside(thread *t);            /* what isn't a hook ends with this alone: quick ones may go on */
-void deliver_deferred(thread *t);      /* the signals that came in its hook */
 void give_turn(thread *t);
 void take_turn(thread *t);
 int keep_turn(thread *t);

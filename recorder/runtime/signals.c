@@ -43,7 +43,7 @@ static void crash(int signal, siginfo_t *info, void *context) {
     uint64_t next = ((ucontext_t *)context)->uc_mcontext.gregs[REG_RIP] + 1;
     int has_address = info->si_code > 0 && info->si_code != SI_KERNEL
         && (signal == SIGSEGV || signal == SIGBUS);
-    if (self && next > (uint64_t)__start_atomics && next <= (uint64_t)__stop_atomics) self->inside = 0;
+    if (self && next > (uint64_t)__start_atomics && next <= (uint64_t)__stop_atomics) end_hook(self);
     /* not where the fault is in a hook but for an atomic operation */
     thread *t = self ? enter(NEVER_YIELD) : 0;
     if (t) {

@@ -436,7 +436,6 @@ void begin_inside(thread *t) {
 
 void end_inside(thread *t) {
     end_hook(t);
-    if (t->deferred) deliver_deferred(t);
     if (t->is_cancelled_anywhere) pthread_setcancelstate(t->cancel_state, 0);
 }
 
@@ -453,7 +452,6 @@ static void let_be_quick(thread *t) {
 thread *enter_access(enum yields yields) {
     thread *t = self;
     if (!t) note_stranger();
-    if (t && !t->inside && t->deferred) deliver_deferred(t); /* it came in a hook that began as a quick one */
     if (!t || !recording || t->inside) return 0;
     begin_inside(t);
     count_quick(t);
