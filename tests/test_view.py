@@ -18,7 +18,7 @@ import program
 import shb
 from viewing import EXAMPLES, MADE, QUIET, made, run, run_here, sections, settings, windows
 
-from shb_common import progress
+from shb_common import standard
 from shb_view import command, counting, groups, names, trace, view
 
 FORK_JOIN = """\
@@ -762,7 +762,7 @@ class Waiting(program.Case):
         return Terminal()
 
     def test_words_on_a_terminal_go_away_again(self):
-        said = progress.Progress("shb-view", self.terminal())
+        said = standard.Progress("shb-view", self.terminal())
         said.next = 0  # as after the first second
         said.step("reading", 1, 4)
         said.clear()
@@ -772,8 +772,8 @@ class Waiting(program.Case):
         fake = self.file(b'#!/bin/sh\nif [ $1 = places ]; then %b "$@" | sed "\$d"; else exec %b "$@"; fi\n'
                          % ((bytes(program.PATH),) * 2), "shb")
         fake.chmod(0o755)
-        wait, progress.WAIT = progress.WAIT, 0.0
-        self.addCleanup(setattr, progress, "WAIT", wait)
+        wait, standard.WAIT = standard.WAIT, 0.0
+        self.addCleanup(setattr, standard, "WAIT", wait)
         terminal = self.terminal()
         with contextlib.redirect_stderr(terminal):
             status = command.main([str(EXAMPLES / "places.std")], fake)
@@ -783,24 +783,24 @@ class Waiting(program.Case):
                                               r"missing; it should be `end`\n\Z")
 
     def test_words_go_away_before_the_text(self):
-        wait, progress.WAIT = progress.WAIT, 0.0
-        self.addCleanup(setattr, progress, "WAIT", wait)
+        wait, standard.WAIT = standard.WAIT, 0.0
+        self.addCleanup(setattr, standard, "WAIT", wait)
         terminal, out = self.terminal(), io.TextIOWrapper(io.BytesIO(), "utf-8")
         with contextlib.redirect_stderr(terminal), contextlib.redirect_stdout(out):
             self.assertEqual(command.main([str(EXAMPLES / "places.std")], program.PATH), 0)
         self.assertRegex(terminal.getvalue(), r"\A\r\x1b\[Kshb-view: reading the report \d+%.*\r\x1b\[K\Z")
 
     def test_nothing_is_said_in_the_first_second(self):
-        self.addCleanup(setattr, progress, "time", progress.time)
-        progress.time = types.SimpleNamespace(monotonic=lambda: now)
+        self.addCleanup(setattr, standard, "time", standard.time)
+        standard.time = types.SimpleNamespace(monotonic=lambda: now)
         now, terminal = 5.0, self.terminal()
-        said = progress.Progress("shb-view", terminal)
+        said = standard.Progress("shb-view", terminal)
         for now, shown in ((5.9, ""), (6.1, "\r\x1b[Kshb-view: reading 25%")):
             said.step("reading", 1, 4)
             self.assertEqual(terminal.getvalue(), shown)
 
     def test_nothing_is_said_elsewhere(self):
-        said = progress.Progress("shb-view", io.StringIO())
+        said = standard.Progress("shb-view", io.StringIO())
         said.step("reading", 1, 4)
         said.clear()
         self.assertEqual(said.out.getvalue(), "")

@@ -156,8 +156,8 @@ class Excerpts(program.Case):
     def excerpt(self, location, acquire=None, code=CODE):
         self.file(code, "a.c")
         source = Source([self.folder], 1e12, {})
-        found = excerpt(source.place(location), source.place(acquire) if acquire else None)
-        return found.head, list(found.numbers), list(found.held)
+        head, *lines = excerpt(source.place(location), source.place(acquire) if acquire else None)
+        return (head, *map(list, lines))
 
     def test_three_lines_before_and_two_after(self):
         self.assertEqual(self.excerpt(b"a.c:8"), (b"void *run(void *unused) {", [5, 6, 7, 8, 9, 10], []))

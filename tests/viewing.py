@@ -18,7 +18,7 @@ EXAMPLES = program.HERE.parent / "examples"
 sys.path.insert(0, str(PYTHON))
 
 from shb_common.report import Counts, Report
-from shb_common import progress
+from shb_common import standard
 from shb_common.uses import Uses
 from shb_view import command, view
 from shb_view.analyser import Verdict
@@ -26,7 +26,7 @@ from shb_view.groups import Gathered
 from shb_view.trace import Trace
 
 MADE = 150  # traces
-QUIET = progress.Progress("shb-view", io.StringIO())
+QUIET = standard.Progress("shb-view", io.StringIO())
 
 
 def sections(text, report, is_good=True):

@@ -13,7 +13,7 @@ import os
 import pathlib
 import shutil
 
-from shb_common.files import open_regular
+from shb_common.files import open_regular, remove
 from shb_common.standard import faults_of
 from shb_common.words import Refused
 
@@ -149,11 +149,6 @@ def put(tree, name, place):
     with faults_of(str(place / name)), open(source, "rb") as content, open(new, "xb") as file:
         shutil.copyfileobj(content, file)   # a full disk names no file
     new.chmod(0o755 if os.access(source, os.X_OK) else 0o644)
-
-
-def remove(path):
-    with contextlib.suppress(FileNotFoundError):
-        os.unlink(path)
 
 
 def remove_files(place, names):

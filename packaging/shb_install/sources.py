@@ -4,7 +4,7 @@ import collections
 import pathlib
 import subprocess
 
-from shb_common.version import version
+from shb_common.parts import version
 from shb_common.words import Refused
 
 TOP = pathlib.Path(__file__).resolve().parents[2]

@@ -3,8 +3,8 @@
 import argparse
 import os
 
+from shb_common.parts import installed, version
 from shb_common.standard import tell
-from shb_common.version import installed, version
 from shb_common.words import printable
 
 COLUMNS = 80

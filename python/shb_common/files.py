@@ -6,17 +6,14 @@ import stat
 import tempfile
 
 
-class NotRegular(OSError):
-    """A file that is read must be a regular one: a device or a FIFO may have no end."""
-
-
 def open_regular(path):
-    """A regular file, open for reading; NotRegular for anything else, which isn't waited for."""
+    """A regular file, open for reading; OSError for anything else, which may have no end and isn't waited
+    for."""
     file = open(os.open(path, os.O_RDONLY | os.O_NONBLOCK | os.O_CLOEXEC), "rb")
     if stat.S_ISREG(os.fstat(file.fileno()).st_mode):
         return file
     file.close()
-    raise NotRegular(0, "it isn't a regular file", path)
+    raise OSError(0, "it isn't a regular file", path)
 
 
 def read_at_most(path, most):

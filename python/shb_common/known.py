@@ -34,7 +34,7 @@ BLOCK = re.compile(rb"(.+):[0-9]+#[0-9]+((?:\+[0-9]+)?)", re.S)
 STACK = re.compile(rb"stack\..+-0x[0-9a-f]+", re.S)
 INDEX = re.compile(rb"\[[0-9]+\]")
 ADDRESS = re.compile(rb"(.+)~(?:0x)?[0-9a-f]+((?:[.+\[].*)?)", re.S)
-RAW = re.compile(rb"0x[0-9a-f]+((?:\+[0-9]+)?)")    # memory without a name
+RAW = re.compile(rb"0x[0-9a-f]+(\+[0-9]+)?")    # memory without a name
 OFFSET = re.compile(rb"\+[0-9]+$")
 
 # A line of the file. `sides` has of each side whether it is a function, and its pieces; `variable` the pieces
@@ -58,17 +58,15 @@ class Side(collections.namedtuple("Side", "names functions", defaults=((),))):
         return location_field(self.names[0])
 
     def function(self):
-        """The function as a field; None where it isn't known, or one of several."""
-        return function_field(self.functions[0][0]) if len(self.functions) == 1 else None
+        """The function as a field; None where it isn't known, is one of several, or ends with a backslash."""
+        if len(self.functions) != 1 or self.functions[0][0].endswith(b"\\" + CALL):
+            return None
+        return self.functions[0][0].replace(b"*", b"\\*")
 
 
 def written(name):
     """A name as one field of a table: a tab and line ends are written as two characters."""
     return name.replace(b"\t", b"\\t").replace(b"\n", b"\\n").replace(b"\r", b"\\r")
-
-
-def pair_of(first, second):
-    return tuple(sorted((written(first), written(second))))
 
 
 def side_of(location, functions=()):
@@ -78,12 +76,6 @@ def side_of(location, functions=()):
 
 def location_field(location):
     return (location[:-2] + b"\\()" if location.endswith(CALL) else location).replace(b"*", b"\\*")
-
-
-def function_field(function):
-    """A function `FILE:FUNCTION()` as a field; None where it can't be written as one."""
-    return (None if function[:-2].endswith(b"\\") or not function.endswith(CALL)
-            else function.replace(b"*", b"\\*"))
 
 
 def line_of_fields(first, second, variable):
@@ -105,11 +97,6 @@ def lasting(variable):
     if address:
         name = address[1] + b"~*" + address[2]
     return INDEX.sub(b"[*]", name)
-
-
-def is_of_block(variable):
-    """Whether a variable is named by the block that it is in."""
-    return BLOCK.fullmatch(variable) is not None
 
 
 def lasting_names(variables):

@@ -5,6 +5,7 @@ ends with `end`.
 """
 
 import collections
+import functools
 import re
 
 from shb_common.limits import LINE_ROOM, MOST_LINE
@@ -12,13 +13,12 @@ from shb_common.words import printable
 
 NUMBER = rb"(0|[1-9][0-9]{0,19})"
 ACCESS = rb"[^\n|]+\|[rw]\([^\n|]+\)(?:\|[^\n]*)?"
-SCHEDULE = re.compile(rb"schedule (0|[1-9][0-9]{0,19}):")
+SCHEDULE = re.compile(b"schedule %b:" % NUMBER)
 MOST_EVENTS = 1_000     # of a schedule that is given as a list
 LONGEST = 60        # columns of a line that a refusal shows
-MOST_KNOWN = 10_000  # lines of accesses that are kept
 Counts = collections.namedtuple("Counts", "events threads locks variables")  # what a trace has
 
-# The fields of an access's line. `name` is that of the variable.
+# The fields of an event's line. `name` is what stands in the parentheses, nothing for a mark.
 Access = collections.namedtuple("Access", "thread word name location")
 
 # How many events a schedule has, and which; None of more than MOST_EVENTS.
@@ -44,6 +44,14 @@ class Race(collections.namedtuple("Race", "number events accesses schedule")):
     def threads(self):
         one, other = self.accesses
         return one.thread, other.thread
+
+
+@functools.lru_cache(maxsize=10_000)  # most accesses of a report come again
+def event_of(line):
+    """The event of a line without its end."""
+    thread, operation, *location = line.split(b"|", 2)
+    word, _, name = operation.partition(b"(")
+    return Access(thread, word, b"" if word in (b"begin", b"end") else name[:-1], b"".join(location))
 
 
 class Form:
@@ -135,7 +143,7 @@ class Report:
     `places`, how many races each pair of locations has."""
 
     def __init__(self, file):
-        self.lines, self.known = Lines(file), {}    # accesses by their texts, most of which come again
+        self.lines = Lines(file)
         *counts, self.count, places = map(int, self.lines.take(HEAD))
         self.counts = Counts(*counts)
         # the latter is known when the first race is read
@@ -167,7 +175,7 @@ class Report:
 
     def read_race(self, number):
         _, first, second, *texts = self.lines.take(RACE, number)
-        first, second, (one, other) = int(first), int(second), map(self.access, texts)
+        first, second, (one, other) = int(first), int(second), map(event_of, texts)
         if not 0 < first < second <= self.counts.events:
             raise BadReport(f"race {number} of the report: {first} and {second} aren't two events of the "
                             "trace, the earlier first")
@@ -177,15 +185,6 @@ class Report:
             self.has_schedules = self.lines.line.startswith(b"schedule ")
         schedule = self.lines.pass_schedule() if self.has_schedules else None
         return Race(number, (first, second), (one, other), schedule)
-
-    def access(self, text):
-        if text not in self.known:
-            if len(self.known) == MOST_KNOWN:
-                self.known.clear()
-            thread, operation, *location = text.split(b"|", 2)
-            word, _, name = operation.partition(b"(")
-            self.known[text] = Access(thread, word, name[:-1], b"".join(location))
-        return self.known[text]
 
 
 def in_order(file, race, events):

@@ -2,7 +2,7 @@
 
 import json
 
-from shb_common import version
+from shb_common.parts import installed
 
 FORM, VERSION = "shb-places", 1
 
@@ -56,9 +56,8 @@ def stale_of(lines):
 
 def document(command, summary, places, **more):
     """The whole. `summary` has numbers by their names."""
-    installed = version.installed()
     head = {"form": FORM, "version": VERSION, "command": command,
-            **({"installed": installed} if installed else {})}
+            **({"installed": installed()} if installed() else {})}
     return {**head, "summary": summary, **more, "places": places}
 
 

@@ -6,8 +6,9 @@ import os
 import posixpath
 import re
 
-from shb_common import known, version
+from shb_common import known
 from shb_common.locations import line_of, parts_of
+from shb_common.parts import installed
 from shb_common.result import in_bytes
 from shb_common.sources import read_lines
 from shb_common.stacks import bare
@@ -70,7 +71,7 @@ class Here:
             top = os.path.dirname(top)
         self.top = os.fsencode(folder if top == "/" else top) + b"/"
 
-    def find(self, path, compiled=b""):
+    def find(self, _path, compiled):
         """The path from the top of a file that was compiled from this one; None of one elsewhere."""
         return compiled[len(self.top):] if compiled.startswith(self.top) else None
 
@@ -79,7 +80,7 @@ class Here:
         return lines[number - 1].strip() if number <= len(lines) else None
 
 
-def place_of(name, sources, compiled=b""):
+def place_of(name, sources, compiled):
     """What is known of a location: a file with a line where it has this form, the repository's file where
     that is found. `compiled` is the path that the file had where its program was compiled."""
     found = line_of(name)
@@ -202,9 +203,9 @@ def plain(text):
 def log(alerts, sources, notifications, is_whole, status):
     """A log as bytes. `notifications` are pairs of a level and a sentence; `is_whole` says that the command
     did all that it should."""
-    seen, installed = collections.Counter(), version.installed()
+    seen = collections.Counter()
     run = {
-        "tool": {"driver": {"name": "shb", "version": installed or "checkout", "rules": [RULE]}},
+        "tool": {"driver": {"name": "shb", "version": installed() or "checkout", "rules": [RULE]}},
         "originalUriBaseIds": {name: {"description": {"text": text}} for name, text in BASES.items()},
         "invocations": [{"executionSuccessful": is_whole, "exitCode": status, "toolExecutionNotifications":
                          [{"level": level, "message": {"text": text}} for level, text in notifications]}],

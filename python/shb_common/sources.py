@@ -63,7 +63,7 @@ def lines_of(text):
 class Sources:
     """The files below a folder, if there is one. Paths are bytes, and count from the folder."""
 
-    def __init__(self, folder=None):
+    def __init__(self, folder):
         self.folder = os.fsencode(os.path.realpath(folder)) if folder else None
         self.read = functools.lru_cache(maxsize=64)(read_lines)
 
@@ -71,7 +71,7 @@ class Sources:
     def index(self):
         return Index([self.folder])
 
-    def find(self, path, compiled=b""):
+    def find(self, path, compiled):
         """The file that a path names: the compiled one, itself, or the only one that ends so; else None."""
         if not self.folder:
             return None

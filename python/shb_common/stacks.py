@@ -75,9 +75,10 @@ class Stacks:
         if path:
             with open_regular(path) as file:
                 count = events_in(file)
-                self.numbers = numbers_of(file, events)
-                if count < events or len(self.numbers) != events:
+                if count < events:
                     raise BadStacks(OTHER)
+                self.numbers = array.array("I")  # of 4 bytes, as an x86-64 has them
+                self.numbers.fromfile(file, events)
                 self.read(file, count)
 
     def read(self, file, count):
@@ -203,18 +204,12 @@ def use_of(text):
     return use, order, bool(again)
 
 
-def numbers_of(file, count):
-    """Numbers of 4 bytes, as an x86-64 has them."""
-    read = file.read(NUMBER_BYTES * count)
-    return array.array("I", read[:len(read) // NUMBER_BYTES * NUMBER_BYTES])
-
-
 @functools.lru_cache(maxsize=1024)
 def bare(function):
     """A function's name without its parameters, and without arguments of templates."""
     name = QUALIFIERS.sub(b"", function)
     if name.endswith(b")") and not name.endswith(b"operator()"):
-        name = name[:opening(name, b"(", b")")]
+        name = name[:opening(name)]
     if b"operator" in name or b"->" in name:
         return name
     found, depth = bytearray(), 0
@@ -226,11 +221,11 @@ def bare(function):
     return bytes(found) if not depth else name
 
 
-def opening(name, opens, closes):
+def opening(name):
     """Where the parenthesis opens that the name ends with, or its end."""
     depth = 0
     for at in range(len(name) - 1, -1, -1):
-        depth += (name[at:at + 1] == closes) - (name[at:at + 1] == opens)
+        depth += (name[at] == ord(")")) - (name[at] == ord("("))
         if not depth:
             return at
     return len(name)

@@ -3,8 +3,12 @@
 import contextlib
 import os
 import sys
+import time
 
 from shb_common.words import printable
+
+WAIT = 1.0  # seconds before the first words on how far a work is
+PAUSE = 0.2  # seconds between further ones
 
 
 def open_standard_files():
@@ -68,3 +72,27 @@ def words_of(fault):
     words, name = getattr(fault, "strerror", None) or str(fault), getattr(fault, "filename", None)
     return (f"{printable(os.fsencode(name))}: {words}" if isinstance(name, (str, bytes, os.PathLike))
             else words)
+
+
+class Progress:
+    """How far a long work is, on standard error where that is a terminal."""
+
+    def __init__(self, command, out):
+        self.command, self.out, self.is_terminal = command, out, out.isatty()
+        self.next = time.monotonic() + WAIT if self.is_terminal else float("inf")
+        self.said = False
+
+    def step(self, doing, done, whole):
+        now = time.monotonic()
+        if now < self.next:
+            return
+        self.next, self.said = now + PAUSE, True
+        part = f" {100 * min(done, whole) // whole}%" if whole else ""
+        self.out.write(f"\r\x1b[K{self.command}: {doing}{part}")
+        self.out.flush()
+
+    def clear(self):
+        if self.said:
+            self.out.write("\r\x1b[K")
+            self.out.flush()
+            self.said = False

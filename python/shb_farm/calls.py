@@ -4,7 +4,7 @@ import json
 import os
 import pathlib
 
-from shb_common import known, result, stacks
+from shb_common import result, stacks
 from shb_common.programs import Origin
 from shb_common.report import BadReport, Report
 from shb_common.sarif import Access
@@ -47,11 +47,12 @@ class Calls:
         for (example, report), their_rows in by_example.items():
             path = self.path_of(example)
             try:
-                accesses = accesses_in(pathlib.Path(out) / report, {pair_in(row) for row in their_rows}, path)
+                pairs = {frozenset(row.texts) for row in their_rows}
+                accesses = accesses_in(pathlib.Path(out) / report, pairs, path)
             except (stacks.BadStacks, BadReport, OSError) as fault:
                 self.pass_over(path, fault)
                 continue
-            found.update((row.key, accesses[pair_in(row)]) for row in their_rows if pair_in(row) in accesses)
+            found.update((row.key, accesses.get(frozenset(row.texts), ())) for row in their_rows)
         return found
 
 
@@ -71,20 +72,16 @@ def file_of(folder, name, links, pass_over=lambda path, why: None):
     return None
 
 
-def pair_in(row):
-    return known.pair_of(*row.texts)
-
-
 def accesses_in(report, pairs, path):
-    """By each of these places that a report has: the accesses of its first race there."""
+    """By each of these pairs of locations that race in a report: the accesses of the first race there."""
     with open(report, "rb") as file:
         read = Report(file)
         calls = stacks.Stacks(path, read.counts.events)
         found = {}
         for race in read.races():
-            place = known.pair_of(*race.place)
-            if place in pairs and place not in found:
-                found[place] = tuple(
+            pair = frozenset(race.place)
+            if pair in pairs and pair not in found:
+                found[pair] = tuple(
                     Access(one.thread, b"%b(%b)" % (one.word, one.name), calls.of_event(event), calls.sources)
                     for event, one in zip(race.events, race.accesses))
     return found

@@ -161,17 +161,18 @@ def run_passes(options, work, names, outside=()):
     endings = {name: merging.ending_of(last, name, outside) for name in names}
     for memory in options.memory:
         now = work._replace(memory=memory, last=memory == last.memory)
-        waiting = waiting_for(now, endings, memory == last.memory)
+        waiting = waiting_for(now, endings)
         if waiting:
-            engines.run_pass(now._replace(names=waiting), options)
+            now = now._replace(names=waiting)
+            engines.ENGINES[options.engine](now, passes.write(now), options)
             endings.update((name, merging.ending_of(last, name)) for name in waiting)
     return endings
 
 
-def waiting_for(work, endings, is_last):
+def waiting_for(work, endings):
     """The traces that this pass has to run, the longest first."""
     found = [name for name, ending in endings.items() if ending.kind == "missing" and ending.size is not None
-             and (is_last or running.memory_for(ending.size) <= work.memory)]
+             and (work.last or running.memory_for(ending.size) <= work.memory)]
     # not those that it didn't suffice for
     found = [name for name in found if merging.ending_of(work, name).kind == "missing"]
     return sorted(found, key=lambda name: -endings[name].size)

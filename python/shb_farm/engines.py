@@ -15,8 +15,7 @@ import tempfile
 import time
 
 from shb_common.children import apart
-from shb_common.progress import Progress
-from shb_common.standard import tell
+from shb_common.standard import Progress, tell
 from shb_common.words import Refused, counted
 from shb_farm import passes, running
 
@@ -146,10 +145,6 @@ def run_group(words, given, watch):
         raise
     finally:
         watch.progress.clear()
-
-
-def run_pass(work, options):
-    ENGINES[options.engine](work, passes.write(work), options)
 
 
 def say(text):

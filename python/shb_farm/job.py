@@ -27,8 +27,8 @@ def make_outcome(work, name):
     """Makes the outcome of a trace, unless there is one that stands. Returns its kind. If the trace changes
     meanwhile, the outcome has the stamp of before, and doesn't count."""
     path, place = pathlib.Path(work.traces) / name, passes.outcome_path(work.out, work.form, name)
-    old = outcomes.read(place, name)
-    if passes.stands(old, work, name, outcomes.stamp_of(os.stat(path))):
+    old, stamp = outcomes.read(place, name), outcomes.stamp_of(os.stat(path))
+    if old and old.stamp == stamp and passes.stands(old, work, name):
         return old.kind
     if not work.links and not traces.is_below(os.path.realpath(path), work.traces):
         raise running.NotHere(traces.LEADS_OUT)
@@ -36,12 +36,12 @@ def make_outcome(work, name):
     with open_regular(path) as trace:
         stamp = outcomes.stamp_of(os.fstat(trace.fileno()))
         checksum = outcomes.checksum_of_file(trace)
-        if old is not None and old.trace == checksum and passes.is_final(old, work, name):
+        if old and old.trace == checksum and passes.stands(old, work, name):
             new = old._replace(stamp=stamp)
         else:
-            end, places = reports.analysed(work, name, trace)
+            end = reports.analysed(work, name, trace)
             cost = Cost(round(METER.seconds, 2), METER.kib, METER.text)
-            new = outcomes.Outcome(name, work.program, checksum, stamp, cost, end.kind, end.words, places)
+            new = outcomes.Outcome(name, work.program, checksum, stamp, cost, *end)
     put(place, outcomes.text_of(new), work.room)
     if new.kind == "failed":
         tell(f"shb-farm: {name}: {new.words}")

@@ -79,13 +79,8 @@ def full_path(out, name, ending):
     return pathlib.Path(out) / FOLDER_OF[FULL] / f"{key_of(name)}.{ending}"
 
 
-def stands(outcome, work, name, stamp):
-    """Whether an outcome holds for a trace with this stamp under the limits of this pass."""
-    return outcome is not None and outcome.stamp == stamp and is_final(outcome, work, name)
-
-
-def is_final(outcome, work, name):
-    """The same, where the trace is known to be the one that the outcome is of."""
+def stands(outcome, work, name):
+    """Whether an outcome of this trace, as it is now, holds under the limits of this pass."""
     if outcome.program != work.program or outcome.kind == "failed":
         return False
     if outcome.kind in ("memory", "time", "size"):

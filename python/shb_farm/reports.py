@@ -17,21 +17,21 @@ MARKED = "a byte order mark before the first line is part of the first thread's 
 
 
 def analysed(work, name, trace):
-    """How the program ended on an open trace, and the places that it found. A full report is put in place."""
+    """How the program ended on an open trace. A full report is put in place."""
     unpacker = traces.UNPACKERS.get(os.path.splitext(name)[1])
     if not unpacker:
         return analysed_text(work, name, trace)
     with temporary_file(work.room) as (text, _):
         end = traces.unpack(unpacker, trace, text, work)
-        return analysed_text(work, name, text) if end.kind == "report" else (end, [])
+        return analysed_text(work, name, text) if end.kind == "report" else end
 
 
 def analysed_text(work, name, text):
     METER.text = os.fstat(text.fileno()).st_size
     if not work.last and memory_for(METER.text) > work.memory:
         # the next pass that has room for it takes it up
-        return End("memory", str(work.memory)), []
-    return listed(work, text) if work.form == passes.LIST else (kept(work, name, text), [])
+        return End("memory", str(work.memory))
+    return listed(work, text) if work.form == passes.LIST else kept(work, name, text)
 
 
 def listed(work, trace):
@@ -39,13 +39,15 @@ def listed(work, trace):
     with temporary_file(work.room) as (out, _):
         end = running.analyse(work, passes.LIST, trace, out)
         if end.kind != "report":
-            return told(end, trace), []
+            return told(end, trace)
+        out.seek(0)
         try:
-            report = report_in(out)
+            report = Report(out)
             places = list(map(place_of, analyser.places_in(report.races())))
         except BadReport as fault:
-            return not_whole(fault), []
-        return End("report", "; ".join([words_of(report.counts), *notes_of(trace, report.counts)])), places
+            return not_whole(fault)
+        counts = " ".join(f"{name} {count}" for name, count in report.counts._asdict().items())
+        return End("report", "; ".join([counts, *notes_of(trace, report.counts)]), places)
 
 
 def kept(work, name, trace):
@@ -72,17 +74,13 @@ def written(work, form, trace, out):
     os.lseek(out.fileno(), 0, os.SEEK_SET)
     end = running.analyse(work, form, trace, out)
     if end.kind == "report":
+        out.seek(0)
         try:
-            for _ in report_in(out).races():
+            for _ in Report(out).races():
                 pass
         except BadReport as fault:
             return not_whole(fault)
     return end
-
-
-def report_in(out):
-    out.seek(0)
-    return Report(out)
 
 
 def not_whole(fault):
@@ -92,11 +90,6 @@ def not_whole(fault):
 def told(end, trace):
     """How it ended, with the line for which the trace was refused."""
     return End("refused", refused.explained(end.words, trace)) if end.kind == "refused" else end
-
-
-def words_of(counts):
-    return (f"events {counts.events} threads {counts.threads} locks {counts.locks} variables "
-            f"{counts.variables}")
 
 
 def notes_of(trace, counts):

@@ -12,7 +12,8 @@ from shb_common.limits import MOST_EVENTS, MOST_TEXT
 MIB = 1 << 20
 LIST_MIB = 128      # for a trace whose places alone are listed, which keeps names alone
 WORDS = {"list": analyser.LIST_VARIABLES, "full": [*analyser.FULL, "--workers", "1"]}
-End = collections.namedtuple("End", "kind words")  # how a run ended: the kind and the words of an outcome
+# How a run ended: the kind, the words and the places of an outcome.
+End = collections.namedtuple("End", "kind words places", defaults=((),))
 
 
 def memory_for(size):

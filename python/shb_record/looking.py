@@ -1,6 +1,5 @@
 """Converts, analyses and shows the processes of all runs."""
 
-import contextlib
 import os
 import shlex
 import sys
@@ -8,8 +7,7 @@ import sys
 from shb_common.programs import Origin
 from shb_common.standard import words_of
 from shb_common.words import Refused, counted, printable
-from shb_record.converting import (CRASHED, KILLED, Contradiction, Conversion, Listing, check_room,
-                                   order_of)
+from shb_record.converting import CRASHED, KILLED, Contradiction, Conversion, check_room, order_of
 from shb_record.modules import Modules
 from shb_record.parts import ANALYSER, now, say
 from shb_record.places import Places
@@ -131,8 +129,7 @@ class Look:
 
     def analyse(self, looked):
         check_room(looked.process, self.options.window)
-        with contextlib.closing(Listing(open(looked.place_list, "w+b"))) as listed:
-            looked.find(listed, self.choose)
+        looked.find(self.choose)
         if looked.events:
             self.modules.add(looked.process.modules)
         looked.new, looked.named = self.add_new(looked, looked.places)

@@ -24,10 +24,9 @@ def check_parts():
         raise Refused(parts.NO_ANALYSER(ANALYSER))
 
 
-def say(line=""):
+def say(line):
     """Prints a line on standard error. What doesn't print in it, as an escape of a path, is escaped."""
-    shown = printable(str(line).encode("utf-8", "surrogateescape"))
-    tell(f"shb-record: {shown}" if line else "")
+    tell(f"shb-record: {printable(str(line).encode('utf-8', 'surrogateescape'))}")
 
 
 def files_in(folder, pattern):

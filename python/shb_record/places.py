@@ -92,7 +92,7 @@ class Places(places.Places):
         that isn't new where blocks race."""
         lasting = known.lasting(name)
         is_lost = (self.is_endless and lasting == NAMELESS
-                   and any(map(known.is_of_block, self.seen[key].variables)))
+                   and any(map(known.BLOCK.fullmatch, self.seen[key].variables)))
         return not is_lost and (key, lasting) not in self.known_before
 
     def unknown_of(self, new):

@@ -14,8 +14,7 @@ from shb_record.parts import files_in, now, say
 LIST = "made-by-shb-record.txt"
 LIST_BEGIN = "# What shb-record made in this folder"
 TABLES = "unknown.places", "places.tsv", "places.json", "places.sarif", "index.html"
-OURS = (r"run\d+\.\d[\d-]*(\.\d+)?\.(rec|turns|std|places|uses|stacks|html)|work-\w+|"
-        r"places\.(tsv|json|sarif)|unknown\.places|index\.html")
+OURS = r"run\d+\.\d[\d-]*(\.\d+)?\.(rec|turns|std|places|uses|stacks|html)|work-\w+"  # and TABLES
 
 
 class Results:
@@ -48,7 +47,8 @@ class Results:
         first, *names = self.list.read().splitlines() or [LIST_BEGIN]
         if not first.startswith(LIST_BEGIN):
             raise Refused(f"{self.folder}/{LIST} is there, and shb-record didn't make it")
-        ours = {name: f"{self.folder}/{name}" for name in names if re.fullmatch(OURS, name)}
+        ours = {name: f"{self.folder}/{name}" for name in names
+                if name in TABLES or re.fullmatch(OURS, name)}
         kept = [name for name, path in ours.items()
                 if spared and os.path.exists(path) and os.path.samefile(path, spared)]
         removed = [name for name in reversed(ours) if name not in kept and remove(ours[name])]

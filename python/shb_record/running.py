@@ -128,7 +128,7 @@ class Run:
 def children():
     """The processes that are ours now."""
     try:
-        with open(f"/proc/self/task/{os.getpid()}/children", encoding="ascii") as file:
+        with open(f"/proc/self/task/{os.getpid()}/children", "rb") as file:
             return list(map(int, file.read().split()))
     except OSError:
         return []

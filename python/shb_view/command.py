@@ -6,11 +6,10 @@ import sys
 from shb_common.commands import Parser
 from shb_common.files import put, temporary_file
 from shb_common.parts import ANALYSER
-from shb_common.progress import Progress
 from shb_common.report import BadReport
 from shb_common.result import in_bytes
 from shb_common.stacks import BadStacks
-from shb_common.standard import faults_of, open_standard_files, tell, words_of, write_texts
+from shb_common.standard import Progress, faults_of, open_standard_files, tell, words_of, write_texts
 from shb_common.words import Refused
 from shb_view import result, text
 from shb_view.names import readable

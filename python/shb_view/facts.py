@@ -62,6 +62,14 @@ class Site:
             found[lock] = found.get(lock, 0) + count - self.wrong[lock]
         return found
 
+    @functools.cached_property
+    def guards_by_kind(self):
+        """At how many accesses it holds each of the locks that differ by numbers alone."""
+        found = {}
+        for lock, count in self.guards.items():
+            found.setdefault(re.sub(DIGITS, b"", lock), []).append(count)
+        return found
+
     def guarded(self, lock):
         return self.guards.get(lock, 0)
 
@@ -510,9 +518,8 @@ def not_always(sites):
 
 def holds_another(site, lock):
     """Whether the accesses without a lock hold others that differ by numbers alone, as each object's own."""
-    kind = re.sub(DIGITS, b"", lock)
-    alike = [one for one in site.guards if re.sub(DIGITS, b"", one) == kind]
-    return len(alike) > 1 and sum(map(site.guarded, alike)) >= site.total
+    counts = site.guards_by_kind.get(re.sub(DIGITS, b"", lock), ())
+    return len(counts) > 1 and sum(counts) >= site.total
 
 
 def unlike_words(site):

@@ -187,14 +187,14 @@ def side_data(view, section, access, tables):
             "stack": tables.add(frames), "fault": found.fault if found else ""}
     if found and found.line() is not None:
         acquire = view.source.place(window.events[row.locks[-1][1]].event.location) if row.locks else None
-        lines = excerpt(found, acquire)
+        head, numbers, held = excerpt(found, acquire)
         uses = [view.source.place(use.location) for pair in section.fact.pairs()
                 for use in (pair.store, pair.load)]
         atomics = {use.number for use in uses if use and use.path == found.path}
-        head = function_words(lines.head, frames, row.event.location) if lines.head else b""
-        side.update(first=lines.numbers[0],
-                    lines=[code_line(found.lines[number - 1].rstrip(), LINE) for number in lines.numbers],
-                    hit=found.number, held=list(lines.held), atomics=sorted(atomics & set(lines.numbers)),
+        head = function_words(head, frames, row.event.location) if head else b""
+        side.update(first=numbers[0],
+                    lines=[code_line(found.lines[number - 1].rstrip(), LINE) for number in numbers],
+                    hit=found.number, held=list(held), atomics=sorted(atomics & set(numbers)),
                     head=code_line(head, LINE))
     return side
 

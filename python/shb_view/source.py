@@ -16,10 +16,6 @@ BEFORE, AFTER = 3, 2  # lines around one that is shown
 REACH = 12  # lines before one that is shown, back to the acquire of a lock
 HEAD = re.compile(rb"[A-Za-z_$]")  # what the first line of a function begins with
 
-# Lines around a place. `head` is the first line of its function, nothing if that is the place; `held` are the
-# numbers of the lines from the acquire of a lock to the place, if both are in one function.
-Excerpt = collections.namedtuple("Excerpt", "head numbers held")
-
 
 class Place(collections.namedtuple("Place", "path number lines fault is_newer")):
     """What is known of a location's source: the path in its folder, the number of its line and the file's
@@ -105,8 +101,9 @@ def function_head(place):
 
 
 def excerpt(place, acquire):
-    """The lines around a place, from the acquire of a lock on if that is near. `acquire` is its
-    place, or None."""
+    """Of a place: the first line of its function, nothing if that is the place; the numbers of the lines
+    around it, from the acquire of a lock on if that is near; and of those from that acquire to the place, if
+    both are in one function. `acquire` is the place of the acquire, or None."""
     top, head = place.number - BEFORE, function_head(place)
     held = range(0)
     is_here = (acquire and acquire.path == place.path and acquire.lines
@@ -116,4 +113,4 @@ def excerpt(place, acquire):
         if acquire.number >= place.number - REACH:
             top = min(top, acquire.number)
     numbers = range(max(top, 1), min(place.number + AFTER, len(place.lines)) + 1)
-    return Excerpt(place.lines[head - 1] if 0 < head < place.number else b"", numbers, held)
+    return place.lines[head - 1] if 0 < head < place.number else b"", numbers, held

@@ -92,13 +92,14 @@ def stack_lines(callers):
     for (frames, is_bare), count in callers:
         first, *others = caller_lines(frames, MOST_FRAMES) or [["(no stack is known)"]]
         shown[(is_bare, flat(first[:1]), *map(flat, others))] += count
-    for (is_bare, first, *others), count in shown.most_common(MOST_STACKS):
-        some = f" ({share(count, sum(shown.values()), is_bare)})" if len(shown) > 1 else ""
+    ranked = shown.most_common()
+    for (is_bare, first, *others), count in ranked[:MOST_STACKS]:
+        some = f" ({share(count, sum(shown.values()), is_bare)})" if len(ranked) > 1 else ""
         yield f"     in {first}{some}"
         yield from (f"       from {parts}" for parts in others)
-    if len(shown) > MOST_STACKS:
-        rest = sum(count for _, count in shown.most_common()[MOST_STACKS:])
-        yield (f"     and {counted(len(shown) - MOST_STACKS, 'more stack')} "
+    if len(ranked) > MOST_STACKS:
+        rest = sum(count for _, count in ranked[MOST_STACKS:])
+        yield (f"     and {counted(len(ranked) - MOST_STACKS, 'more stack')} "
                f"({counted(rest, 'access', 'accesses')})")
 
 

@@ -7,33 +7,14 @@ import os
 import re
 
 from shb_common.refused import CARRIAGE_RETURNS, MARK
-from shb_common.report import Access
 from shb_common.variables import without_end
-from shb_common.words import Refused
 
 BATCH = 65_536  # bytes of lines that are read at once
-ALONE = re.compile(rb"\r[^\n]")
 OPENS = ord("(")  # the second byte of `r(X)` and `w(X)` alone
 CHANGED = "the trace isn't the one that `shb` read: it was changed in between"
 
 # A line that was looked up, without its end; `row` is its number in the text, counted from 1.
 Found = collections.namedtuple("Found", "row line")
-
-
-def fields_of(line):
-    """The thread, the operation and the location of a line with its end."""
-    thread, _, rest = without_end(line).partition(b"|")
-    return (thread, *rest.partition(b"|")[::2])
-
-
-def event_of(line):
-    """The event of a line without its end. `name` is what stands in the parentheses, nothing for a mark."""
-    try:
-        thread, operation, *location = line.split(b"|", 2)
-    except ValueError:
-        raise Refused(CHANGED) from None
-    word, _, name = operation.partition(b"(")
-    return Access(thread, word, b"" if word in (b"begin", b"end") else name[:-1], b"".join(location))
 
 
 def line_of(event):
@@ -48,7 +29,7 @@ def warnings(path):
         start = file.read(BATCH)
     if start.startswith(MARK):
         yield "The trace begins with a byte order mark, which is a part of the first thread's name."
-    if ALONE.search(start):
+    if re.search(rb"\r[^\n]", start):
         yield f"In the trace {CARRIAGE_RETURNS}."
 
 
@@ -92,11 +73,9 @@ class Trace:
         """The number of each event from this one on, its thread, its operation, and its line with its end."""
         for start, lines in self.batches(doing, first):
             for number, line in enumerate(lines, start):
-                try:
-                    thread, operation, _ = line.split(b"|", 2)
-                except ValueError:
-                    thread, operation, _ = fields_of(line)
-                yield number, thread, operation, line
+                fields = line.split(b"|", 2)
+                operation = fields[1] if len(fields) == 3 else without_end(fields[1])
+                yield number, fields[0], operation, line
 
     def count(self):
         """How many events were read."""

@@ -5,10 +5,11 @@ import bisect
 import collections
 import tempfile
 
+from shb_common.report import event_of
 from shb_common.variables import without_end
 from shb_common.words import Refused
 from shb_view.analyser import Analyser
-from shb_view.trace import OPENS, event_of, line_of
+from shb_view.trace import OPENS, line_of
 from shb_view.words import listed, place
 
 MOST_LINES = 400_000  # of all copies

@@ -228,7 +228,7 @@ def make_sections(asked, kinds, made, trace, groups, unseen={}):
             races = [section.group.closest() for section in sections[:MOST_DETAILED]]
             windows = make_windows(trace, races, counting, made.given.order)
             sections[:len(races)] = [one._replace(window=window) for one, window in zip(sections, windows)]
-    except (IndexError, KeyError):
+    except (IndexError, KeyError, ValueError):
         raise Refused(CHANGED) from None
     return len(found), sections
 

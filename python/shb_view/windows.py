@@ -2,19 +2,18 @@
 
 import collections
 
+from shb_common.report import event_of
 from shb_view.held import Held
-from shb_view.trace import OPENS, event_of, line_of
+from shb_view.trace import OPENS, line_of
 
 SOURCES = {b"acq": b"rel", b"r": b"w"}  # what an operation waits for or sees
 
 # An event that is shown. `named` is the event with the program's name for its variable or lock, and `line`
-# its line with that. `previous` is the event before it in its thread, or 0. `source` is the event of another
-# thread that it waits for or sees: for an acquire the last release of the lock, for a read the last write,
-# for a join the thread's last event; or 0. `locks` and `held` are as `Held.newest` has them; `freed` is the
+# its line with that. `source` is the event of another thread that it waits for or sees: for an acquire the
+# last release of the lock, for a read the last write, for a join the thread's last event; or 0. `previous` is
+# the event before it in its thread, or 0. `locks` and `held` are as `Held.newest` has them; `freed` is the
 # lock that it makes free, or None.
-Shown = collections.namedtuple("Shown", "number row line event named previous source locks held freed")
-
-Moment = collections.namedtuple("Moment", "previous locks held freed")  # what the pass notes at an event
+Shown = collections.namedtuple("Shown", "number row line event named source previous locks held freed")
 
 # A race with what comes before it. `before` are the events before the accesses in the order of its schedule
 # or of the trace; `edges` are pairs of events of different threads, the earlier first; `forks` has the fork
@@ -29,7 +28,7 @@ class Moments:
         """`sources` has for an event what it waits for or sees, `w(X)` or `rel(L)`."""
         self.wanted, self.sources, self.counting = wanted, sources, counting
         self.tracked = set(sources.values())
-        self.moments = {}
+        self.moments = {}  # by event: the last four fields of `Shown`
         self.found = {}  # by event: its source, where that is an event of another thread
 
     def read(self, trace):
@@ -57,7 +56,7 @@ class Moments:
         is_acquire, lock = operation[1] != OPENS and self.counting.operations[operation] or (True, None)
         freed = lock if not is_acquire and held.is_last_release(lock) else None
         previous = self.last.get(thread) or self.counting.last_before(self.part, thread)
-        moment = Moment(previous, *held.newest(), freed)
+        moment = previous, *held.newest(), freed
         if number in self.wanted:
             self.moments[number] = moment
             source, by, its_moment = self.latest.get(self.sources.get(number), (0, thread, None))
@@ -94,7 +93,7 @@ def shown_event(number, found, kinds, moment, source):
     event = event_of(found.line)
     named = kinds.named(number, event)
     line = line_of(named) if named != event else found.line
-    return Shown(number, found.row, line, event, named, moment.previous, source, *moment[1:])
+    return Shown(number, found.row, line, event, named, source, *moment)
 
 
 def window(race, counting, forks, shown, order):

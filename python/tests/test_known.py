@@ -3,8 +3,7 @@
 import side_by_side
 from shb_common import known
 from shb_common.known import (BadLine, Known, lasting, line_of_fields, lines_of, location_field, matches,
-                              pair_of, pieces_of,
-                              side_of, words_of_stale, written)
+                              pieces_of, side_of, words_of_stale, written)
 from shb_common.programs import Names
 
 FILE = b"""\
@@ -203,7 +202,7 @@ class KnownPlaces(side_by_side.Case):
         names = [b"", b"#a.c:1", b"\\#a.c:1", b"\\\\#a", b"a#", b"op*", b"op\\*", b"opAny", b"*", b"\\",
                  b"\\*", b"**", b"a*b*", b"axbx", b"a\tb", b"a\nb", b"a\rb",
                  b"a()", b"a\\()", b"()"]
-        pairs = {pair_of(a, b) for a in names for b in names if a or b}
+        pairs = {tuple(sorted(map(written, (a, b)))) for a in names for b in names if a or b}
         for pair in pairs:
             one = Known(line_of(pair, b"x"))
             self.assertEqual([other for other in pairs if one.has(sides(*other), b"x")], [pair])

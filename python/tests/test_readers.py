@@ -13,7 +13,7 @@ import tempfile
 
 import side_by_side
 from shb_common import analyser
-from shb_common.files import NotRegular, open_regular, put, read_at_most
+from shb_common.files import open_regular, put, read_at_most
 from shb_common.known import BadLine, Known
 from shb_common.refused import explained
 from shb_common.report import BadReport, Report, in_order
@@ -266,7 +266,7 @@ class Readers(side_by_side.Case):
         for path in (self.folder / "pipe", "/dev/zero", self.folder):
             with self.assertRaises(OSError):
                 Stacks(path)
-        with self.assertRaises(NotRegular):
+        with self.assertRaisesRegex(OSError, "it isn't a regular file"):
             open_regular("/dev/zero")
         with self.assertRaises(OSError) as refused:
             read_at_most("/dev/zero", 1000)

@@ -42,7 +42,7 @@ class Packed(farm.Case):
                               (greedy, ("refused", "it can't be unpacked: MemoryError")),
                               ("exec cat /dev/zero", ("size", "1")), ("kill -9 $$", ("failed", "signal 9 "))):
             with open(os.devnull, "rb") as trace, open(self.folder / "text", "wb") as text:
-                self.assertEqual(traces.unpack(["sh", "-c", words], trace, text, work), wanted)
+                self.assertEqual(traces.unpack(["sh", "-c", words], trace, text, work)[:2], wanted)
 
     def test_a_text_that_needs_more_memory_goes_on_unread(self):
         """It is analysed once, by the pass that has room for it."""
