@@ -9,8 +9,8 @@ Each is run with gcc's library, which reports nothing, and by shb-record with se
 its own; the built analyser is bin/shb, or what SHB names. The first run compiles Python's modules; an
 installation has compiled ones. CPU seconds are user and system time with those of all processes that were
 started, the least of RUNS runs (3); memory is the most that one of them had. The phases are run by
-themselves: recording, shb-std's trace of the run, and the analyser on it; what the whole takes besides is the
-rest. The aim is ThreadSanitizer's time and 0.4 microseconds for each event.
+themselves: recording, shb-std's coarse trace of the run, and the analyser on it; what the whole takes besides
+is the rest, with a finer trace if the program needs one.
 """
 
 import os
@@ -23,7 +23,6 @@ TOP = pathlib.Path(__file__).resolve().parent.parent
 ROUNDS = {"account": None, "compressor": 48, "table": 560_000, "atomic_lock": 150_000}
 SHB = os.environ.get("SHB", TOP / "bin" / "shb")
 A_PLACE = 66  # the status where there is one that isn't known
-EVENT = 0.4e-6
 
 
 def processor_seconds(words, status=0, out=subprocess.DEVNULL, **how):
@@ -69,8 +68,10 @@ def phases(words, runs, folder, environment):
     for _ in range(runs):
         record.unlink(missing_ok=True)
         taken[0].append(processor_seconds(words, env=recording)[0])
-        with open(trace, "wb") as file:
-            taken[1].append(processor_seconds([TOP / "recorder/shb-std", "--list", record], out=file)[0])
+        with open(trace, "wb") as file, open(os.devnull, "wb") as finer:
+            making = [TOP / "recorder/shb-std", "--list", "--finer", finer.fileno(), "--only", os.devnull,
+                      "--page", os.devnull, record]
+            taken[1].append(processor_seconds(making, out=file, pass_fds=[finer.fileno()])[0])
         taken[2].append(processor_seconds([SHB, "places", "--list", "--variables", trace])[0])
     with open(trace, "rb") as file:
         return *map(min, taken), sum(1 for _ in file)
@@ -83,13 +84,12 @@ def print_row(name, words, runs, folder):
     recording, making, analysing, events = phases(words, runs, folder, environment)
     seconds = recording, making, analysing, all_ - recording - making - analysing, all_
     cells = " | ".join(f"{it:.2f}" for it in seconds)
-    print(f"| {name} | {events:,} | {tsan:.3f} | {cells} | {all_ / tsan:.1f} | {tsan + EVENT * events:.2f} "
-          f"| {memory:,} |", flush=True)
+    print(f"| {name} | {events:,} | {tsan:.3f} | {cells} | {all_ / tsan:.1f} | {memory:,} |", flush=True)
 
 
 def main(runs="3", *words):
     heads = ("Program", "Events", "ThreadSanitizer", "Recording", "shb-std", "Analyser", "Rest", "Whole",
-             "Ratio", "Aim", "Memory, MB")
+             "Ratio", "Memory, MB")
     print(f"| {' | '.join(heads)} |\n{'|---' * len(heads)}|")
     for kind in ["--"] if words[:1] == ("--",) else words or ROUNDS:
         with tempfile.TemporaryDirectory() as name:

@@ -45,8 +45,14 @@ class Run:
     def __enter__(self):
         return self
 
+    def say(self, texts):
+        """Writes a part of what it reads from a pipe. If it reads no more, its status says how it ended."""
+        with contextlib.suppress(BrokenPipeError):
+            self.process.stdin.writelines(texts)
+            self.process.stdin.flush()
+
     def give(self, texts):
-        """Writes all that it reads from a pipe. If it reads no more, its status says how it ended."""
+        """Writes all that it reads from a pipe, or the rest."""
         with contextlib.suppress(BrokenPipeError):
             with self.process.stdin as given:
                 given.writelines(texts)

@@ -1,9 +1,11 @@
 """From a record to traces."""
 
 import collections
+import contextlib
 import itertools
 import os
 import re
+import select
 import shutil
 import signal
 from subprocess import PIPE
@@ -25,6 +27,8 @@ NOT_WHOLE = 1  # shb-std's status where the trace is a part of the run
 HEADER_BYTES, ENTRY_BYTES = 65536, 16  # record.h says where an entry has its thread and operation
 MODULE = re.compile(rb"^[0-9a-f]+ [0-9a-f]+ [0-9a-f]+ (.+)$", re.M)
 LINE_BYTES = 64  # about those of an event in a trace
+BUNDLE = b"~"  # at the end of a bundle's name
+MOST_FINER = 2  # traces after a coarse one
 
 
 class Process(collections.namedtuple("Process", "name base command record modules replay blocks",
@@ -69,7 +73,7 @@ class Records:
 
 def process_of(record, name, base):
     with open(record, "rb") as file:
-        header = file.read(HEADER_BYTES)
+        header = file.read(HEADER_BYTES).partition(b"\0")[0]
     command = re.search(rb"^command (.*)$", header, re.M)
     words = command[1].decode(errors="backslashreplace").strip() if command else "?"
     modules = [path.replace(b"\1", b"\n") for path in MODULE.findall(header)]
@@ -106,14 +110,17 @@ class Contradiction(Refused):
 
 class Listing:
     """A running `shb places --list`, which reads from a pipe and writes to the open file `text`. `descriptor`
-    is where the trace is to be written; it ends when whoever was started with it has ended, and `begun` was
-    called."""
+    is where the trace is to be written, unless it comes from an open `pipe`; it ends when whoever was started
+    with it has ended, and `begun` was called."""
 
-    def __init__(self, text):
+    def __init__(self, text, pipe=None):
         self.text = text
         self.races, self.counts = [], None  # of the run, when all is read, as a `Report` has them
-        reading, self.descriptor = os.pipe()
-        with open(reading, "rb") as pipe:
+        self.descriptor = None
+        if not pipe:
+            reading, self.descriptor = os.pipe()
+            pipe = open(reading, "rb")
+        with pipe:
             self.run = Run([ANALYSER, *LIST_VARIABLES], pipe, self.text, **apart())
 
     def begun(self):
@@ -153,7 +160,7 @@ class Conversion:
         strip = ["--strip", options.strip] if options.strip else []
         blocks = ["--blocks", process.blocks] if process.blocks else []
         left = ["--left", process.beside(".left")] if options.live else []  # blocks at its end
-        self.window = options.window
+        self.window, self.has_known = options.window, options.known_path is not None
         self.list_words = [CONVERTER, "--list", *strip, *blocks, process.record]
         self.page_words = [*strip, *blocks, "-n", str(options.window), process.record]
         self.words = [CONVERTER, "--list", "--only", "/dev/stdin", "--page", self.trace, "--uses", self.uses,
@@ -168,14 +175,20 @@ class Conversion:
         self.races, self.counts, self.events = [], None, 0  # of the run
         self.has_files = False  # are those of its page among the results?
 
-    def find(self, listed, choose):
+    def find(self, choose):
         """Finds the places of the run. The page's trace then has those that `choose` returns of them."""
-        with Run(self.words, PIPE, listed.descriptor, **apart()) as ran:
+        with self.listing() as listed, contextlib.ExitStack() as opened:
+            pipes = [os.pipe() for _ in range(MOST_FINER)]
+            finer = [opened.enter_context(open(reading, "rb")) for reading, _ in pipes]
+            writing = [number for _, number in pipes]
+            words = [*self.words, *(f"--finer={number}" for number in writing)]
+            ran = opened.enter_context(Run(words, PIPE, listed.descriptor, pass_fds=writing, **apart()))
             listed.begun()
+            for number in writing:
+                os.close(number)
             chosen, fault = [], None
             try:
-                self.places = listed.places()
-                self.races, self.counts, self.events = listed.races, listed.counts, listed.counts.events
+                self.take_places(listed, ran, finer)
                 chosen = choose(self.process, self.places)
             except Refused as its:
                 fault = its
@@ -186,6 +199,26 @@ class Conversion:
             self.end(answer)
         if chosen:
             self.note_page(chosen)
+
+    def take_places(self, listed, ran, finer):
+        """Takes the places of the run. In a coarse trace variables that are used alike are one, a bundle. As
+        long as bundles are in a race the next one of `finer` brings a trace where these are apart, at last
+        all. A second look numbers events as in the trace where all are."""
+        bundles = self.take(listed)
+        for pipe in finer:
+            if has_writer(pipe) and (bundles or (self.has_known and self.races)):
+                ran.say([*map(line_of, [] if self.has_known else bundles), b"again\n"])
+                with self.listing(pipe) as listed:
+                    bundles = self.take(listed)
+
+    def listing(self, pipe=None):
+        return contextlib.closing(Listing(open(self.place_list, "w+b"), pipe))
+
+    def take(self, listed):
+        """Takes the places of the run, and returns the races of bundles."""
+        self.places = listed.places()
+        self.races, self.counts, self.events = listed.races, listed.counts, listed.counts.events
+        return [race for race in self.races if race.accesses[0].name.endswith(BUNDLE)]
 
     def note_page(self, places):
         """The page's trace is there: its events that are those of races of the run have the same lines."""
@@ -239,11 +272,20 @@ class Conversion:
         self.cuts = [note for note in self.notes if note.startswith(CUTS)] if status == NOT_WHOLE else []
 
 
-def lines_of(places):
+def has_writer(pipe):
+    """Whether a process has the other end of a pipe open."""
+    ends = select.poll()
+    ends.register(pipe, 0)
+    return not ends.poll(0)
+
+
+def line_of(race):
     """What `shb-std --only` is given."""
-    for place in places:
-        for name, race in place.variables.items():
-            yield b"%d %d %b\n" % (*race.events, name)
+    return b"%d %d %b\n" % (*race.events, race.accesses[0].name)
+
+
+def lines_of(places):
+    return [line_of(race) for place in places for race in place.variables.values()]
 
 
 def order_of(record):

@@ -80,6 +80,8 @@ static use use_of(u64 i) {
 
 static void share_piece(u64 i, use u, u32 number) {
     piece_use *p = use_of_piece(number);
+    if (is_coarse && (u.reads || u.writes)) note_history(number, u.thread, u.writes);
+    else if (is_coarse) stand_apart(number);
     add_thread(&p->users, u.thread);
     if (u.reads) add_thread(&p->readers, u.thread);
     if (!u.writes && !u.writes_atomically) return;
@@ -91,8 +93,9 @@ static void share_piece(u64 i, use u, u32 number) {
         add_to_list(&piece_of(number)->atomic_writers, u.thread);
 }
 
-/* Neighbours mostly have numbers that follow each other: so an access has runs of these. */
-typedef struct { u32 first, count : 31, is_last : 1; } run;
+/* Neighbours mostly have numbers that follow each other: so an access has runs of these. is_bundle: they
+   have one bundle, or all have none. */
+typedef struct { u32 first, count : 30, is_bundle : 1, is_last : 1; } run;
 static VECTOR(run) runs;
 
 /* how many from the first on follow each other */
@@ -109,7 +112,7 @@ static void add_to_runs(u64 from, const u32 *numbers, u32 count) {
         run *last = runs.count > from ? &runs.at[runs.count - 1] : 0;
         if (last && last->first + last->count == *numbers) last->count += length;
         else if (runs.count == MOST_PIECES) die("out of memory");
-        else *PUSH(runs) = (run){*numbers, length, 0};
+        else *PUSH(runs) = (run){.first = *numbers, .count = length};
     }
 }
 
@@ -138,6 +141,14 @@ void share_pieces(u64 i) {
     runs.at[runs.count - 1].is_last = 1;
 }
 
+void share_runs(void) {
+    EACH(r, runs.at, runs.count) {
+        u32 k = 1;
+        while (k < r->count && bundle_of(r->first + k) == bundle_of(r->first)) k++;
+        r->is_bundle = k == r->count;
+    }
+}
+
 piece *only_piece(u64 i) {
     return known[i].accessed && known[i].accessed <= MOST_PIECES ? piece_of(known[i].accessed) : 0;
 }
@@ -158,7 +169,10 @@ static int next_visit(void) {
     return k / 64 < visits.count && (visits.at[k / 64] >> k % 64 & 1);
 }
 
-void begin_visits(void) { visit = 0; }
+void begin_visits(void) {
+    visit = 0;
+    if (!is_for_page()) visits.count = 0;
+}
 
 static int only_reads(const use *u) { return !u->writes && !u->writes_atomically; }
 
@@ -168,27 +182,8 @@ static void find_own(u64 i, use *u) {
     u->site = site_of(u->own);
 }
 
-/* The thread, and how it reads: an atomic read tells less than a plain one. */
-static u32 reader_of(const use *u) { return (u->thread + 1) | (u32)u->reads << 31; }
-
-/* Behind the last write of a variable that one thread alone writes, the first read of each other thread comes
-   after all writes: so its next ones conflict with nothing, and tell nothing. */
-static int is_settled(u64 i, u32 number) {
-    return i > piece_of(number)->last_write && !use_of_piece(number)->writers.many;
-}
-
-/* Is it such a next one, with no other thread's between? */
-static int reads_again(u64 i, const use *u, u32 number) {
-    u32 last = piece_of(number)->reader;
-    if (!is_settled(i, number)) return 0;
-    piece_of(number)->reader = reader_of(u);
-    return last == reader_of(u);
-}
-
-/* The reads of a thread that may stand for each other: at one location, unless that tells nothing. */
-static u64 kind_of_read(u64 i, use *u, u32 number) {
-    find_own(i, u);
-    return (u64)reader_of(u) << 32 | (is_settled(i, number) ? 0 : u->site);
+static u64 site_and_thread(const use *u) {
+    return u->site | (u64)u->thread << 32 | (u64)u->reads << 63;             /* an atomic one tells less */
 }
 
 /* The same read, by the same thread at the same place under the same locks, with no write of the variable
@@ -196,20 +191,20 @@ static u64 kind_of_read(u64 i, use *u, u32 number) {
    it orders, the first does too. Behind the variable's last write it conflicts with nothing that comes, so
    locks and orders don't matter. A place is a location: of two reads in one line the second repeats the
    first. */
-static int repeats(u64 i, use *u, u32 number) {
+static int repeats(u64 i, const use *u, u32 number) {
     enum { RECENT = 1 << 14 };
-    typedef struct { u64 kind, epoch, locks; u32 piece, writes; } read;
+    typedef struct { u64 site, epoch, locks; u32 piece, writes; } read;
     static read *recent;
     if (!recent) recent = zeroed(RECENT, sizeof *recent);
     const thread_state *s = &threads[u->thread];
     const piece *p = piece_of(number);
-    read this = {.kind = kind_of_read(i, u, number), .piece = number, .writes = p->writes};
+    read this = {.site = site_and_thread(u), .piece = number, .writes = p->writes};
     if (i < p->last_write) {
         this.epoch = s->epoch + 1;
         this.locks = s->locks;
     }
-    read *last = &recent[(mix(this.kind, 0) + number) & (RECENT - 1)];       /* neighbours are side by side */
-    int same = last->kind == this.kind && last->piece == number && last->writes == this.writes
+    read *last = &recent[(mix(this.site, 0) + number) & (RECENT - 1)];       /* neighbours are side by side */
+    int same = last->site == this.site && last->piece == number && last->writes == this.writes
         && last->epoch == this.epoch && last->locks == this.locks;
     *last = this;
     return same;
@@ -290,50 +285,45 @@ static void note_piece(u64 i, const use *u, u32 number, u64 before) {
 static void use_piece(u64 i, use *u, u32 number) {
     u64 before = written;
     int has_events = may_have_events(u, use_of_piece(number));
-    if (has_events && only_reads(u) && !whole_trace)
-        has_events = !reads_again(i, u, number) && !repeats(i, u, number);
+    if (has_events) find_own(i, u);
+    if (has_events && only_reads(u) && !whole_trace) has_events = !repeats(i, u, number);
     note_visit(has_events);
-    if (has_events) {
-        find_own(i, u);
-        piece_events(i, u, number, 0);
-    }
+    if (has_events) piece_events(i, u, number, 0);
     note_piece(i, u, number, before);
 }
 
-/* A read that is no event: those of these events that aren't known to do so stand for it. */
-static void omit_read(const use *u, u32 number, read_events *events) {
-    for (; events->from < events->end; events->from++) note_repeated(events->from);
-    note_sight(u->thread, u->own, number, NOBODY, 0);
-    if (!u->reads) return;
-    for (const list_entry *k = entry_of_list(piece_of(number)->atomic_writers); k; k = entry_of_list(k->next))
-        note_sight(u->thread, u->own, number, k->thread, 0);
-}
-
-/* What was omitted in the run's trace isn't in the page's, where the last read of its kind stands for it. */
+/* What was omitted in the run's trace isn't in the page's, where the last read of its site stands for it. */
 static void use_on_page(u64 i, use *u, u32 number) {
-    static INTERNED(read_events) reads;          /* by kinds and pieces */
+    static INTERNED(read_events) reads;          /* by sites, each with its thread, and pieces */
     u64 before = written;
     int made = next_visit(), is_kept = takes_piece(number);
     read_events *kept = 0;
     if (!made && !is_kept) return;
     if (is_kept || !has_events(u->thread)) find_own(i, u);
-    if (is_kept && only_reads(u)) kept = ENTRY(reads, kind_of_read(i, u, number), number);
+    if (is_kept && only_reads(u)) kept = ENTRY(reads, site_and_thread(u), number);
     if (kept && made) *kept = (read_events){0};
     if (made) piece_events(i, u, number, kept);
-    else if (kept) omit_read(u, number, kept);
+    else for (; kept && kept->from < kept->end; kept->from++) note_repeated(kept->from);
     if (!is_kept) return;
     count_use(u->thread, caller_of(i), u->own, number, word_of(i, u));
     note_piece(i, u, number, before);
+}
+
+static void use_variable(u64 i, use *u, u32 number) {
+    u32 bundle = bundle_of(number);
+    if (bundle) use_bundle(bundle, u->thread, u->writes, caller_of(i));
+    else if (is_for_page()) use_on_page(i, u, number);
+    else use_piece(i, u, number);
 }
 
 void access_events(u64 i) {
     u32 found = known[i].accessed;
     if (!found) return;
     use u = use_of(i);
-    void (*use_it)(u64, use *, u32) = is_for_page() ? use_on_page : use_piece;
-    if (found <= MOST_PIECES) use_it(i, &u, found);
+    if (found <= MOST_PIECES) use_variable(i, &u, found);
     else for (const run *r = &runs.at[found - MOST_PIECES - 1];; r++) {
-        for (u32 k = 0; k < r->count && !cut_reason; k++) use_it(i, &u, r->first + k);
+        const u32 count = r->is_bundle && bundle_of(r->first) ? 1 : r->count;
+        for (u32 k = 0; k < count && !cut_reason; k++) use_variable(i, &u, r->first + k);
         if (r->is_last) return;
     }
 }

@@ -72,9 +72,11 @@ int is_good_late(u64 position, struct record access, u64 i); /* of an entry OP_L
 void count_late(u64 position, u64 most_entries);
 /* returns how many entries there are with these in place */
 u64 find_late(const struct record *of_record, u64 record_entries);
-/* Copies `room` entries from `at` on, or one more, or as many as there are, and sets `at` to the next.
-   Returns how many; 0: damaged. */
-u64 merge(struct record *to, u64 *contexts, u64 room, u64 *at);
+/* What comes next in a pass: a run of entries as they stand in the record, at most so many or one more, with
+   0; or an access that is late, with its context, plus one, and IS_REPEATED. */
+typedef struct { const struct record *first; u64 count, context; } some_records;
+void begin_entries(void);              /* each pass */
+some_records next_entries(u64 most);
 
 /* sources.c: the source files of modules, and how they are named. */
 void strip_folder(const char *folder); /* names of files below it are paths from it */
@@ -154,13 +156,12 @@ typedef struct {
 } block;
 typedef struct {
     u64 at;
+    u64 last_write;                    /* the record */
     u32 block;                         /* its number, or 0 */
     u32 atomic_writers;                /* a list */
     u32 writes;                        /* events so far that wrote it, in all traces */
-    u64 last_write;                    /* the record */
     /* the number of the one that was met last at its address, or 0 (objects.c) */
     u32 object;
-    u32 reader;                        /* of a settled one: who read it last (accesses.c) */
 } piece;
 /* Who uses a piece, reads it plainly and writes it, plainly or atomically. It stands apart, for most accesses
    ask no more, and of several neighbours. */
@@ -224,7 +225,9 @@ void write_names_in_blocks(FILE *to);
 const char *local_now(u64 at, const block *b);
 
 /* page.c: which of the run's events the trace has that is written, and the uses of variables in races. */
-int read_races(const char *path, u64 run_events);  /* of a page, whose trace is next; 0: there are none */
+int read_races(const char *path);      /* up to the end; or to a line "again", where it returns 1 */
+int begin_page(u64 run_events);        /* its trace is next; 0: there are no races */
+void begin_spans(void);                /* of each trace */
 void open_uses(const char *path);
 int is_for_page(void);
 int takes_piece(u32 piece);            /* has it the accesses of this piece? */
@@ -253,6 +256,7 @@ int is_passed_over(u64 i);             /* from the second pass on: no pass needs
 int means_access(u64 i);               /* does a record mean more than its context? */
 void find_cuts(u64 i);
 void share_pieces(u64 i);
+void share_runs(void);                 /* at its end: which runs of pieces are of one bundle */
 void share_object(u64 i);
 /* behind each of the passes that share objects and write events, but those of calls */
 void note_record(u64 i);
@@ -267,6 +271,18 @@ void each_held(held_lock give, const char *operation);
 void access_events(u64 i);
 void object_events(u64 i);
 void fence_events(u64 i);
+
+/* bundles.c: pieces that are one variable in a coarse trace of the run. */
+extern int is_coarse;                  /* the run's trace has bundles, or may have some */
+/* in the third pass: a plain access of a piece; another one, so that it is in no bundle */
+void note_history(u32 number, u32 t, int writes);
+void stand_apart(u32 number);
+int form_bundles(void);                /* at its end; are there some? */
+void end_region(u32 t);                /* in that pass and later ones: before what could give or take order */
+void forget_phases(void);              /* before each trace */
+u32 bundle_of(u32 number);             /* of a piece, or 0 */
+void use_bundle(u32 number, u32 t, int writes, u64 caller);
+void refine(const map *names);         /* the pieces of bundles with these names are apart */
 
 /* A list of threads is the number of its first entry, or 0. */
 typedef struct { u32 thread, next; } list_entry;
@@ -296,5 +312,7 @@ u64 access_event(u32 t, const char *operation, u32 piece, u64 caller, u64 own_pl
 void lock_event(u32 t, const char *operation, u32 lock, u64 caller);
 /* the same, which orders no thread */
 void hold_event(u32 t, const char *operation, u32 lock, u64 caller, u32 stack);
+/* of the bundle that begins with this piece; in a page's trace it is counted */
+void bundle_event(u32 t, const char *operation, u32 piece, u64 own_place);
 extern int is_unwritten;               /* the trace is made for that of a page alone */
 void write_lines(void);                /* the last of the trace */

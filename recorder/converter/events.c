@@ -265,6 +265,22 @@ u64 event(u32 t, const char *operation, part name, u64 caller) {
     return number;
 }
 
+/* It needs none of the locks that its thread holds. */
+void bundle_event(u32 t, const char *operation, u32 number, u64 own) {
+    char text[NAME_BYTES + 1 + WIDE];
+    if (is_over()) return;
+    if (!is_for_page()) {
+        part name = piece_name(number);
+        *(char *)mempcpy(text, name.at, name.length) = '~';
+        write_event(t, operation, (part){text, name.length + 1}, own, 0);
+    } else if (!has_events(t)) write_event(t, "begin", name_of_thread(t), own, 0);
+    else {
+        meet_span();
+        events++;
+    }
+    threads[t].epoch += *operation == 'w';
+}
+
 /* Most events are accesses inside a span by a thread that is in the trace: they take less than others. */
 u64 access_event(u32 t, const char *operation, u32 number, u64 caller, u64 own) {
     part name = piece_name(number);

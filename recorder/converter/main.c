@@ -11,6 +11,7 @@
 #include <stdio.h>
 #include <stdlib.h>
 #include <string.h>
+#include <unistd.h>
 #include "converter.h"
 
 #define MAX_RANGE_STEPS (1ull << 28)   /* in a pass: seconds */
@@ -34,12 +35,21 @@ static void meet_name(u64 i) {
     give_name(thread_of(i), piece, size_of(i) == 0);
 }
 
+/* Of who could give or take order by a record. */
+static void end_regions(u64 i) {
+    enum operation operation = operation_of(i);
+    int is_of_two = operation == OP_FORK || operation == OP_JOIN;
+    if (is_of_two || operation == OP_FENCE || is_for_object(operation)) end_region(thread_of(i));
+    if (is_of_two) end_region(other_thread_of(i));
+}
+
 static void find_sharing(u64 i) {
     if (operation_of(i) == OP_NAME) meet_name(i);
     if (operation_of(i) == OP_START) name_thread(thread_of(i), caller_of(i));
     if (operation_of(i) == OP_FRAME || operation_of(i) == OP_CONTEXT || late_context(i))
         name_by_own(thread_of(i), i);
     share_pieces(i);
+    end_regions(i);
     if (operation_of(i) == OP_FENCE) share_fence(i);
     if (is_for_object(operation_of(i))) share_object(i);
     if (!is_of_stack(operation_of(i)) && means_access(i)) note_record(i);
@@ -67,6 +77,7 @@ static void write_events(u64 i) {
     enum operation operation = operation_of(i);
     meet_call(i);
     if (is_of_stack(operation)) return;
+    end_regions(i);
     if (operation == OP_FORK) write_fork(thread_of(i), other_thread_of(i), caller_of(i));
     else if (operation == OP_JOIN) write_join(thread_of(i), other_thread_of(i), caller_of(i));
     else if (operation == OP_FENCE) fence_events(i);
@@ -124,7 +135,9 @@ static inline __attribute__((always_inline)) void pass(void (*step)(u64), int is
 static void write_trace(int has_stacks) {
     forget_thread_states();
     forget_states();
+    forget_phases();
     begin_visits();
+    begin_spans();
     begin_calls(has_stacks);
     begin_events();
     pass(write_events, 0);
@@ -152,6 +165,13 @@ static const char help[] =
     "                 are written, and RACES is read, from a FIFO or standard input,\n"
     "                 when the first is; if it is empty, only the first is written\n"
     "  --page TRACE   write the trace of --only to this file\n"
+    "  --finer D      with --list and --page: in the trace of --list variables that\n"
+    "                 are used alike are one, with '~' at the end of its name. If\n"
+    "                 RACES has a line 'again', the trace is written once more, to\n"
+    "                 the open descriptor D. May be given twice: in the first one's\n"
+    "                 trace those of the races before that line are apart, or all if\n"
+    "                 there is none; in the last one's all. Where all are apart,\n"
+    "                 further descriptors are closed at once\n"
     "  --uses FILE    with --only, write how often each thread used these variables\n"
     "                 in the whole run, where and under which locks, to this file\n"
     "  --stacks FILE  write the call stack of each event to this file, where threads\n"
@@ -173,7 +193,8 @@ static const char help[] =
 
 enum file { STACKS = 1, STRIP, ONLY, PAGE, USES, BLOCKS, LEFT, FILES };
 static const char *paths[FILES];       /* of the options that have one; or null */
-static int for_list;
+enum { MOST_FINER = 2 };
+static int for_list, finer[MOST_FINER], finer_count;
 static u64 event_limit = SHB_EVENTS;
 
 static void bad_words(const char *which, const char *why) {
@@ -186,6 +207,7 @@ static void read_words(int count, char **words) {
     static const struct option options[] = {
         {"stacks", ARG, 0, STACKS}, {"strip", ARG, 0, STRIP}, {"only", ARG, 0, ONLY},
         {"page", ARG, 0, PAGE}, {"uses", ARG, 0, USES}, {"blocks", ARG, 0, BLOCKS}, {"left", ARG, 0, LEFT},
+        {"finer", ARG, 0, 'f'},
         {"list", 0, &for_list, 1}, {"version", 0, 0, 'v'}, {"help", 0, 0, 'h'}, {0}};
     opterr = 0;
     for (int c; (c = getopt_long(count, words, "ahn:", options, 0)) >= 0;)
@@ -196,6 +218,7 @@ static void read_words(int count, char **words) {
             puts("shb-std " VERSION);
             exit(0);
         } else if (c && c < FILES) paths[c] = optarg;
+        else if (c == 'f' && finer_count < MOST_FINER) finer[finer_count++] = strtol(optarg, 0, 10);
         else if (c == 'a') whole_trace = 1;
         else if (c == 'n') {
             if (!(event_limit = strtoull(optarg, 0, 10))) bad_words(optarg, " isn't a number of events");
@@ -205,6 +228,8 @@ static void read_words(int count, char **words) {
     if (paths[USES] && !paths[ONLY]) bad_words("--uses", " needs --only");
     if (paths[PAGE] && !paths[ONLY]) bad_words("--page", " needs --only");
     if (for_list && paths[ONLY] && !paths[PAGE]) bad_words("--list", " with --only needs --page");
+    is_coarse = finer_count != 0;
+    if (is_coarse && !(for_list && paths[PAGE])) bad_words("--finer", " needs --list and --page");
 }
 
 static void write_to(const char *path) {
@@ -222,11 +247,25 @@ static void write_run(void) {
     is_unwritten = 0;
 }
 
+/* The run's trace, and finer ones as long as they are asked for; each ends when the next one begins. Where it
+   has no bundle the descriptors of further ones are closed before. */
+static void write_runs(void) {
+    for (int k = 0;; k++) {
+        is_coarse = is_coarse && k < finer_count;
+        for (int rest = k; !is_coarse && rest < finer_count; rest++) close(finer[rest]);
+        write_run();
+        if (!is_coarse) return;
+        if (dup2(finer[k], STDOUT_FILENO) < 0 || close(finer[k])) die("cannot write a finer trace");
+        if (!read_races(paths[ONLY])) return;
+    }
+}
+
 /* A part of the run's trace, which has so many events. */
 static void write_page(u64 run_events) {
     most = LIMITS_OF_LIST;
     most.events = event_limit;
-    if (!read_races(paths[ONLY], run_events)) return;
+    read_races(paths[ONLY]);
+    if (!begin_page(run_events)) return;
     if (paths[USES]) open_uses(paths[USES]);
     write_trace(1);
 }
@@ -242,7 +281,8 @@ int main(int count, char **words) {
     pass(find_cuts, 0);
     find_places();
     pass(find_sharing, 0);
-    write_run();
+    is_coarse = is_coarse && form_bundles();
+    write_runs();
     const char *cut = for_list || !paths[ONLY] ? cut_reason : 0;
     u64 run_events = events;
     if (paths[PAGE]) write_to(paths[PAGE]);

@@ -18,9 +18,9 @@ enum { PAGE = 4096, GRAIN = 16, MAX_PAGES = 1 << 24 };
 /* of 64 bytes: a bit for each; the slot of its first cut */
 typedef struct { u64 cuts; u32 *slots; } stretch;
 typedef struct {
-    u32 whole, *grains;                /* numbers of blocks */
+    u32 cut_count, whole, *grains;     /* whole, grains: numbers of blocks */
     stretch *stretches;
-    u32 *slots, cut_count;
+    u32 *slots;
 } page;
 
 u64 range_steps;
@@ -34,7 +34,7 @@ enum { RECENT = 4096 };
 /* pages that were asked for, by the ends of their numbers */
 static struct { u64 number; u32 found; } recent[RECENT];
 
-static page *find_page(u64 number, int make) {
+static RARE page *find_page(u64 number, int make) {
     u32 found = make ? INTERN(pages, number, 0) : map_find(&pages.numbers, number, 0);
     if (!found) return 0;
     if (found > MAX_PAGES) die("the program used more than 64 GB of memory, or the record is damaged");
@@ -56,7 +56,7 @@ static u32 *slot_of(const page *p, u64 byte) {
     return s->slots + __builtin_popcountll(s->cuts & ((1ull << byte % 64) - 1));
 }
 
-static void make_slots(page *p) {
+static RARE void make_slots(page *p) {
     for (int k = 0; k < PAGE / 64; k++) p->cut_count += __builtin_popcountll(p->stretches[k].cuts);
     u32 *slot = p->slots = zeroed(p->cut_count, sizeof *p->slots);
     for (int k = 0; k < PAGE / 64; k++) {
@@ -142,7 +142,7 @@ void cut(u64 address) {
     p->stretches[address % PAGE / 64].cuts |= 1ull << address % 64;
 }
 
-u64 next_cut(u64 from, u64 end) {
+RARE u64 next_cut(u64 from, u64 end) {
     u64 at = from + 1;
     while (at < end) {
         page *p = page_of(at, 0);
@@ -163,7 +163,7 @@ u64 next_cut(u64 from, u64 end) {
 }
 
 /* The new pieces that begin at the cuts from `from` on, by their slots. */
-static void make_pieces(u64 from, u64 cuts, u32 *slots) {
+static RARE void make_pieces(u64 from, u64 cuts, u32 *slots) {
     for (; cuts; cuts &= cuts - 1, slots++) {
         if (*slots) continue;
         u64 at = from + __builtin_ctzll(cuts);

@@ -59,12 +59,6 @@ static void say_unread(module *m) {
                     "information %s\n", m->path, why.first);
 }
 
-/* A module's name. */
-static const char *leaf(const char *path) {
-    const char *slash = strrchr(path, '/');
-    return slash ? slash + 1 : path;
-}
-
 void read_modules(char *header) {
     char *rest = 0;
     for (char *line = strtok_r(header, "\n", &rest); line
@@ -76,7 +70,7 @@ void read_modules(char *header) {
         for (char *p = m->path; *p; p++)
             if (*p == LINE_END_IN_PATH) *p = '\n';
         m->in_system = in_system(m->path);
-        m->is_recorder = !strncmp(leaf(m->path), "libtsan.so", 10);
+        m->is_recorder = !strncmp(basename(m->path), "libtsan.so", 10);
         module_count++;
     }
 }
@@ -245,7 +239,7 @@ void symbol_name(u64 address, char *buffer, size_t size) {
         snprintf(buffer, size, "0x%lx", address);
         return;
     }
-    const char *library = m == modules ? "" : leaf(m->path), *colon = *library ? ":" : "";
+    const char *library = m == modules ? "" : basename(m->path), *colon = *library ? ":" : "";
     int cut_off = strlen(s->name) > 1000;
     int n = snprintf(buffer, size, "%.200s%s%.1000s", library, colon, s->name);
     if (s->is_twice || cut_off) n += snprintf(buffer + n, size - n, "~%lx", s->at - m->base);
@@ -327,8 +321,7 @@ int local_name(u64 function, u64 pc, u64 below, u64 above, u64 length, char *buf
 }
 
 /* ---- lines of code ---- */
-/* Apart from the usual way, which is short. */
-static __attribute__((noinline)) u32 number_of(u64 caller) {
+static RARE u32 number_of(u64 caller) {
     if (nowhere.text) return map_find(&places.numbers, caller, 0);
     u32 number = INTERN(places, caller, 0);
     place_at(number)->caller = caller;
@@ -453,7 +446,7 @@ static void note_sources_of(module *m) {
 static char *address_place(u64 caller) {
     char text[PLACE_BYTES];
     module *m = module_at(caller);
-    if (m) snprintf(text, sizeof text, "%.900s+0x%lx", leaf(m->path), caller - m->base - 1);
+    if (m) snprintf(text, sizeof text, "%.900s+0x%lx", basename(m->path), caller - m->base - 1);
     else snprintf(text, sizeof text, "0x%lx", caller);
     return copied(cleaned(text));
 }

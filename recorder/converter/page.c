@@ -24,7 +24,7 @@
        repeated NUMBER-IN-PAGE
            this access stands for others of its kind, which are omitted: earlier ones in a phase of one
            owner; of a read also later ones, before the thread could order another or the variable is
-           written, or behind its last write, at other locations too if one thread alone writes
+           written, or behind its last write
        events COUNT-IN-PAGE         at the end */
 #define _GNU_SOURCE
 #include <errno.h>
@@ -87,26 +87,40 @@ static void join_spans(u64 run_events) {
     page.spans.count = count;
 }
 
-int read_races(const char *path, u64 run_events) {
-    FILE *file = fopen(path, "r");
-    char *line = 0, *rest;
-    size_t capacity = 0;
-    if (!file) die("cannot open %s: %s", path, strerror(errno));
+int read_races(const char *path) {
+    static FILE *file;
+    static char *line;
+    static size_t capacity;
+    if (!file && !(file = fopen(path, "r"))) die("cannot open %s: %s", path, strerror(errno));
     for (ssize_t length; (length = getline(&line, &capacity, file)) > 0;) {
+        char *rest;
         if (line[length - 1] == '\n') line[length - 1] = 0;
+        if (is_coarse && !strcmp(line, "again")) {
+            if (page.names.count) refine(&page.names);
+            else is_coarse = 0;
+            page = (sink){0};
+            wanted.count = 0;
+            return 1;
+        }
         u64 first = strtoull(line, &rest, 10), second = strtoull(rest, &rest, 10);
         if (!first || first >= second || *rest != ' ' || !rest[1]) die("%s: this is no race: %s", path, line);
         add_race(first, second, rest + 1);
     }
     if (ferror(file)) die("cannot read %s: %s", path, strerror(errno));
-    fclose(file);
-    free(line);
+    return 0;
+}
+
+int begin_page(u64 run_events) {
     if (!page.spans.count) return 0;
     join_spans(run_events);
     qsort(wanted.at, wanted.count, sizeof *wanted.at, by_number);
     into = &page;
-    span_last = 0;
     return 1;
+}
+
+void begin_spans(void) {
+    into->at = 0;
+    span_last = is_for_page() ? 0 : -1;
 }
 
 /* Is a piece's variable in a race? Each is looked up once. */

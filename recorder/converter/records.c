@@ -16,28 +16,30 @@ u64 record_count;
 /* ---- the records at hand ---- */
 static const struct record *entries, *carried;               /* of the file; of the segment before */
 u64 entry_count;
-static u64 entry_at;                   /* those before are passed */
-/* Where some are late: those at hand, with the contexts of these, plus one, and IS_REPEATED; of others 0. */
-static struct record *merged;
-static u64 *late_contexts;
-enum { AT_ONCE = 1 << 16 };            /* or one more */
+enum { AT_ONCE = 1 << 16 };            /* entries */
 static uintptr_t at_hand;              /* where record 0 would stand, if all before them were */
-static const u64 *contexts_at_hand;    /* the same; or null */
+static u64 context_at_hand;            /* of a single one that is late, as in some_records */
 u64 records_end, carried_count;
 
 static inline const struct record *record_at(u64 i) {
     return (const struct record *)(at_hand + i * sizeof(struct record));
 }
 
-static void have_at_hand(const struct record *from, u64 count) {
-    at_hand = (uintptr_t)from - records_end * sizeof *from;
-    contexts_at_hand = from == merged ? late_contexts - records_end : 0;
-    records_end += count;
-}
-
 void is_damaged(const char *how) { die("record of %s is damaged: %s", record_path, how); }
 
-void begin_records(void) { records_end = entry_at = 0; }
+static void have_at_hand(some_records next) {
+    at_hand = (uintptr_t)next.first - records_end * sizeof *next.first;
+    context_at_hand = next.context;
+    records_end += next.count;
+}
+
+void begin_records(void) {
+    records_end = 0;
+    have_at_hand((some_records){carried, carried_count, 0});
+    begin_entries();
+}
+
+void next_records(void) { have_at_hand(next_entries(AT_ONCE)); }
 
 /* A pass over all has gone by those before: they needn't stay in memory. */
 void forget_before(u64 i) {
@@ -50,25 +52,11 @@ void forget_before(u64 i) {
     forgotten = i;
 }
 
-void next_records(void) {
-    u64 left = entry_count - entry_at, count = left < AT_ONCE ? left : AT_ONCE;
-    forget_before(entry_at);
-    if (records_end < carried_count) have_at_hand(carried, carried_count);
-    else if (merged) {
-        if (!(count = merge(merged, late_contexts, AT_ONCE, &entry_at)))
-            is_damaged("an access that is late has no place");
-        have_at_hand(merged, count);
-    } else {
-        have_at_hand(&entries[entry_at], count);
-        entry_at += count;
-    }
-}
-
 enum operation operation_of(u64 i) { return operation_in(*record_at(i)); }
 u64 address_of(u64 i) { return record_at(i)->where & LOW_48_BITS; }
 u64 caller_of(u64 i) { return record_at(i)->what & LOW_48_BITS; }
-u64 late_context(u64 i) { return contexts_at_hand ? contexts_at_hand[i] % IS_REPEATED : 0; }
-int is_repeated(u64 i) { return contexts_at_hand && contexts_at_hand[i] / IS_REPEATED; }
+u64 late_context(u64 i) { return context_at_hand % IS_REPEATED; }
+int is_repeated(u64 i) { return context_at_hand / IS_REPEATED; }
 
 /* ---- threads: the number of one that is over is used again by the next one forked with it ---- */
 static u32 thread_count;               /* of those met in this pass */
@@ -89,7 +77,7 @@ void meet_start(u64 i) { is_used[record_at(i)->where >> 48] = 1; }
 static u32 own_numbers = 1;            /* those of threads in records that were met are below it */
 
 static void note_number(u64 number) {
-    if (number >= own_numbers && number < THREAD_NUMBERS) own_numbers = number + 1;
+    if (number >= own_numbers) own_numbers = number + 1;
 }
 
 u32 next_thread(u32 t) { return t + 1 == own_numbers ? THREAD_NUMBERS : t + 1; }
@@ -116,7 +104,7 @@ void forget_thread_states(void) {
         c->calls.count = c->known = c->owned = c->told = c->now = c->in = c->length = c->depth = c->last = 0;
         s->held.count = s->unwritten = s->locks = 0;
         s->has_begun = s->is_met = 0;
-        s->forked_by = s->notes.count = s->is_fenced = s->gave = 0;
+        s->forked_by = s->notes.count = s->is_fenced = s->gave = s->pending.count = 0;
     }
 }
 
@@ -146,25 +134,25 @@ u64 depth_inside(u64 i) {
 static int is_good(const struct record *r) {
     enum operation operation = operation_in(*r);
     if (operation <= OP_SIZE || operation >= OP_LATE || r->where >> 48 >= THREAD_NUMBERS) return 0;
-    if (is_access(r) && size_in(r) > 16 && !(r->what >> 54 & IS_RANGE)) return 0;
     if (size_follows(r) && (operation_in(r[1]) != OP_SIZE || size_follows(r + 1) || size_in(r) >= MAX_SIZE))
         return 0;
+    if (is_access(r)) return r->what >> 54 & IS_RANGE || size_in(r) <= 16;
     if (operation == OP_FRAME) return size_in(r) < MOST_FRAMES;
     if (operation == OP_CONTEXT) return !size_in(r);
     if (operation == OP_NAME) return size_in(r) == 0 || size_in(r) == NAME_PIECE;
     return (operation != OP_FORK && operation != OP_JOIN) || (r->where & LOW_48_BITS) < THREAD_NUMBERS;
 }
 
-/* The entry or the two at `r`, which are of the first `count` ones. Returns how many they are; 0 if they
-   aren't whole. */
-static u64 check(const struct record *r, u64 i, u64 count) {
-    if (!r[i].what || (is_of_two(r[i]) && (i + 1 == count || !r[i + 1].what))) return 0;
-    const struct record *its = &r[i + is_late(r[i])];
-    if (!is_good(its) || (is_late(r[i]) && !is_good_late(r[i].where, *its, i)))
+/* The entry or the two at `r`, number i of `count`. Returns how many they are, or 0: they aren't whole. */
+static inline u64 check(const struct record *r, u64 i, u64 count) {
+    const u64 are_two = is_of_two(*r);
+    if (!r->what || (are_two && (i + 1 == count || !r[1].what))) return 0;
+    const struct record *its = r + is_late(*r);
+    if ((is_late(*r) && !is_good_late(r->where, *its, i)) || !is_good(its))
         die("record %lu of %s is damaged", i + 1, record_path);
     note_number(its->where >> 48);
     if (operation_in(*its) == OP_FORK || operation_in(*its) == OP_JOIN) note_number(its->where & LOW_48_BITS);
-    return 1 + is_of_two(r[i]);
+    return 1 + are_two;
 }
 
 /* What a record that is whole says of itself. */
@@ -173,24 +161,17 @@ static int has_sum;
 
 /* The entries up to the first that isn't whole. */
 static void check_entries(u64 most) {
-    u64 sum = 0;
-    int has_late = 0;
-    for (u64 more; entry_count < most && (more = check(entries, entry_count, most));) {
-        if (is_late(entries[entry_count])) {
-            count_late(entries[entry_count].where, most);
-            has_late = 1;
-        }
-        for (; more; more--, entry_count++) sum += entry_sum(entry_count, entries[entry_count]);
-        forget_before(entry_count);
+    u64 sum = 0, at = 0;
+    for (u64 more; at < most && (more = check(&entries[at], at, most)); forget_before(at)) {
+        if (is_late(entries[at])) count_late(entries[at].where, most);
+        for (; more; more--, at++) sum += entry_sum(at, entries[at]);
     }
+    entry_count = at;
     if (has_sum && entry_count < whole_count)
         die("%s was cut: %lu of its %lu records are there", record_path, entry_count, whole_count);
     if (has_sum && (entry_count > whole_count || sum != whole_sum))
         die("%s was changed after it was recorded", record_path);
-    record_count = has_late ? find_late(entries, entry_count) : entry_count;
-    if (!has_late) return;
-    merged = zeroed(AT_ONCE + 1, sizeof *merged);
-    late_contexts = zeroed(AT_ONCE + 1, sizeof *late_contexts);
+    record_count = find_late(entries, entry_count);
 }
 
 static char *map_file(const char *path, u64 *size) {
@@ -246,7 +227,7 @@ void carry_blocks(const char *path) {
     if (fread(blocks, sizeof *blocks, carried_count, file) != carried_count) die("cannot read %s", path);
     fclose(file);
     for (u64 i = 0, more; i < carried_count; i += more)
-        if (!(more = check(blocks, i, carried_count))) die("%s is damaged", path);
+        if (!(more = check(&blocks[i], i, carried_count))) die("%s is damaged", path);
     carried = blocks;
     record_count += carried_count;
 }
@@ -274,10 +255,11 @@ static u64 freed_bytes(u64 address) {
     return b->size < MAX_FREED ? b->size : MAX_FREED;
 }
 
-u64 accessed_bytes(u64 i) {
+static RARE u64 bytes_of_other(u64 i) {
     enum operation operation = operation_of(i);
-    if (is_plain(operation)) return size_of(i);
     if (is_atomic(operation)) return size_of(i) & ((1 << ATOMIC_SIZE_BITS) - 1);
     if (operation == OP_FREE) return freed_bytes(address_of(i));
     return operation == OP_DESTROY || uses_object(i);
 }
+
+u64 accessed_bytes(u64 i) { return is_access(record_at(i)) ? size_of(i) : bytes_of_other(i); }

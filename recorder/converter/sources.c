@@ -1,6 +1,7 @@
 /* Names of source files: the shortest end of a file's path that no other file's path ends in; at most the
    path from the folder that all files of the program have in common. Or, if one was named, the path from
    there (--strip). */
+#include <ctype.h>
 #include <stdio.h>
 #include <stdlib.h>
 #include <string.h>
@@ -124,8 +125,6 @@ void write_sources(FILE *file) {
     }
 }
 
-static int is_blank(char byte) { return byte == ' ' || (byte >= '\t' && byte <= '\r'); }
-
 /* So a line that was changed is known as another one by whoever sees traces of both, and nothing that stands
    in a file is told. Blanks at the ends don't count. */
 void write_line_sum(FILE *file, const char *location, const char *path, u64 line) {
@@ -133,8 +132,8 @@ void write_line_sum(FILE *file, const char *location, const char *path, u64 line
     const char *at = line_of(path, line, &length);
     if (!at) return;
     const char *end = at + length;
-    while (at < end && is_blank(*at)) at++;
-    while (end > at && is_blank(end[-1])) end--;
+    while (at < end && isspace((uint8_t)*at)) at++;
+    while (end > at && isspace((uint8_t)end[-1])) end--;
     while (at < end) sum = mix(sum, (uint8_t)*at++ + 1);
     fprintf(file, "line %s\t%016lx\n", location, sum);
 }

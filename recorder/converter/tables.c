@@ -34,7 +34,7 @@ static void *in_large_pages(void *array, size_t bytes) {
     return array;
 }
 
-void *zeroed(size_t count, size_t size) {
+RARE void *zeroed(size_t count, size_t size) {
     void *p = calloc(count, size);
     if (!p) die("out of memory");
     return in_large_pages(p, count * size);
@@ -54,12 +54,15 @@ void *mapped(size_t count, size_t size) {
     return p;
 }
 
-void *grown(void *array, u64 count, u64 *capacity, size_t size) {
-    if (count < *capacity) return array;
+static RARE void *doubled(void *array, u64 *capacity, size_t size) {
     *capacity = *capacity ? *capacity * 2 : 64;
     array = realloc(array, *capacity * size);
     if (!array) die("out of memory");
     return in_large_pages(array, *capacity * size);
+}
+
+void *grown(void *array, u64 count, u64 *capacity, size_t size) {
+    return count < *capacity ? array : doubled(array, capacity, size);
 }
 
 /* ---- maps: open addressing, at most half full ---- */

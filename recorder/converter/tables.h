@@ -15,6 +15,8 @@ void cannot_write(const char *path) __attribute__((noreturn));
 void *zeroed(size_t count, size_t size);
 char *copied(const char *text);
 void *mapped(size_t count, size_t size);                     /* what isn't used of it takes addresses alone */
+/* of a function that is called rarely: apart from its callers, whose usual way is short then */
+#define RARE __attribute__((noinline))
 void *grown(void *array, u64 count, u64 *capacity, size_t size);
 /* An array that grows. PUSH points to a new entry at its end, which has to be written. */
 #define VECTOR(type) struct { type *at; u64 count, capacity; }

@@ -33,7 +33,7 @@ def records():
     """Each record with each set of options, with a header and without."""
     bodies = [test_record.FRAMES + test_record.ENTRIES * 2,
               *map(b"".join, (test_record.LATE_ENTRIES, barriers(), large_blocks()))]
-    for options, header, body in itertools.product(range(32), (b"", HEADER), bodies):
+    for options, header, body in itertools.product(range(64), (b"", HEADER), bodies):
         yield bytes([options, len(header)]) + header + body
 
 

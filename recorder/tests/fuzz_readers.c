@@ -21,7 +21,7 @@ int command(int count, char **words);  /* main of the command that is tried */
 extern uint8_t __start___sancov_cntrs, __stop___sancov_cntrs;
 void __sanitizer_cov_8bit_counters_init(uint8_t *start, uint8_t *stop);      /* linkers drop clang's own call of it */
 static uint8_t *counted;               /* shared with the process */
-static char folder[] = "/tmp/shb-fuzz-XXXXXX", races[64], page[64], stacks[64], input[64], package[64], said[64];
+static char folder[] = "/tmp/shb-fuzz-XXXXXX", races[64], finer_races[64], page[64], stacks[64], input[64], package[64], said[64];
 static int file, words_file;
 
 static size_t count_bytes(void) { return &__stop___sancov_cntrs - &__start___sancov_cntrs; }
@@ -45,6 +45,9 @@ int LLVMFuzzerInitialize(int *count, char ***words) {
     snprintf(said, sizeof said, "%s/said", folder);
     file = openat(AT_FDCWD, races, O_RDWR | O_CREAT | O_TRUNC, 0600);       /* the reader has an open of its own */
     if (file < 0 || dprintf(file, "1 3 0x5000\n2 40 0x5008\n") < 0 || close(file)) abort();
+    snprintf(finer_races, sizeof finer_races, "%s/finer-races", folder);
+    file = openat(AT_FDCWD, finer_races, O_RDWR | O_CREAT | O_TRUNC, 0600);
+    if (file < 0 || dprintf(file, "1 3 0x5000~\n1 3 0x9000~\nagain\n1 3 0x5000\n2 40 0x5008\n") < 0 || close(file)) abort();
     file = openat(AT_FDCWD, input, O_RDWR | O_CREAT | O_TRUNC, 0600);
     words_file = openat(AT_FDCWD, said, O_RDWR | O_CREAT | O_TRUNC | O_APPEND, 0600);
     if (file < 0 || words_file < 0) abort();
@@ -127,7 +130,9 @@ static int prepare(const uint8_t *data, size_t size, char **words) {
     if (data[0] & 1) words[count++] = "--list";
     if (data[0] & 2) words[count++] = "-a";
     if (data[0] & 4) { words[count++] = "--stacks"; words[count++] = stacks; }
-    if (data[0] & 8) { words[count++] = "--only"; words[count++] = races; words[count++] = "--page"; words[count++] = page; }
+    int is_coarse = (data[0] & 41) == 41;
+    if (data[0] & 8) { words[count++] = "--only"; words[count++] = is_coarse ? finer_races : races; words[count++] = "--page"; words[count++] = page; }
+    if (is_coarse) { words[count++] = "--finer"; words[count++] = "1"; }
     if (data[0] & 8 && data[0] & 16) { words[count++] = "--uses"; words[count++] = "/dev/null"; }
     words[count++] = input;
     return count;
@@ -141,7 +146,7 @@ int LLVMFuzzerTestOneInput(const uint8_t *data, size_t size) {
 }
 #else
 static void run(const uint8_t *data, size_t size) {
-    char *words[16] = {0};
+    char *words[20] = {0};
     int null = openat(AT_FDCWD, "/dev/null", O_RDWR);        /* the reader's own open takes regular files alone */
     dup2(null, 0), dup2(null, 1), dup2(words_file, 2);
     alarm(SECONDS);

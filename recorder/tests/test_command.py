@@ -856,7 +856,8 @@ int main(int count, char **words) {
                            ("--nonsense a", "--nonsense isn't an option, or has no value"),
                            ("-n 0 a", "0 isn't a number of events"), ("--uses u a", "--uses needs --only"),
                            ("--page p a", "--page needs --only"),
-                           ("--list --only r a", "--list with --only needs --page")):
+                           ("--list --only r a", "--list with --only needs --page"),
+                           ("--finer 1 a", "--finer needs --list and --page")):
             answer = recorder.call(recorder.BUILT / "shb-std", *words.split(), cwd=self.folder)
             self.assertEqual((answer.returncode, answer.stdout), (3, b""), words)
             self.assertEqual(answer.stderr.decode(), f"shb-std: {why}; shb-std --help says more\n")

@@ -7,11 +7,14 @@ be found, which is tested too.
 
 import io
 import re
+import types
 
 import recorder
 import test_open
-from analysis import Analysis
+from analysis import Analysis, Step
 from shb_common.report import Report
+from shb_common.words import Refused
+from shb_record import converting
 from test_record import HEADER, entry
 
 POSITION_BITS, ENTRY_BYTES = 40, 16
@@ -116,15 +119,31 @@ def draw_record(folder, seed):
 
 
 def listed(path, converter):
-    """By two places: the first bytes of the variables of which `shb places --list` has a race, as (number of
-    the block, address or offset)."""
+    """What `shb places --list` has of the trace of all variables."""
     trace = recorder.must(recorder.call(converter, "--list", path)).stdout
-    report = Report(
+    return bytes_in(Report(
         io.BytesIO(
             recorder.must(recorder.call(recorder.SHB, "places", "--list", "--variables",
-                                        input=trace)).stdout))
+                                        input=trace)).stdout)).races())
+
+
+def found(path, converter):
+    """The same as shb-record finds it, by a coarse trace first; with the page's trace of all places. Besides,
+    how many traces it took."""
+    options = types.SimpleNamespace(strip=None, live=False, window=4_194_304, known_path=None)
+    conversion = converting.Conversion(converting.Process("", "", "", path, []), options)
+    conversion.words[0], taken, take = converter, [], conversion.take
+    conversion.take = lambda listing: taken.append(listing) or take(listing)
+    converting.ANALYSER = recorder.SHB
+    conversion.find(lambda _, places: places)
+    return bytes_in(conversion.races), len(taken)
+
+
+def bytes_in(races):
+    """By two places: the first bytes of the variables of races, as (number of the block, address or
+    offset)."""
     found = {}
-    for race in report.races():
+    for race in races:
         name = race.accesses[0].name.partition(b"!")[0]
         block = BLOCK.fullmatch(name)
         byte = (int(block[1]), int(block[2] or 0)) if block else (0, int(name, 16))
@@ -149,6 +168,17 @@ def differs(steps, found):
 
 
 class Decided(recorder.Case):
+    def test_coarse_traces_find_the_races_of_the_record(self):
+        """By one trace, by a finer one, and by that of all variables."""
+        traces = set()
+        converter = bundling(self.folder / "bundling")
+        for seed in range(150):
+            steps, path = draw_record(self.folder, seed)
+            races, count = found(path, converter)
+            self.assertIsNone(differs(steps, races), seed)
+            traces.add(count)
+        self.assertEqual(traces, {1, 2, 3})
+
     def test_the_list_has_the_races_of_the_record(self):
         places = 0
         for seed in range(300):
@@ -157,6 +187,15 @@ class Decided(recorder.Case):
             self.assertIsNone(differs(steps, found), seed)
             places += len(found)
         self.assertGreater(places, 1000)
+
+    def test_a_thread_that_uses_a_bundle_alone_begins_on_the_page(self):
+        """Else its join by another thread than forked it would make an event there."""
+        path, cell, byte = self.folder / "app.rec", 0x5000, 0x100000
+        steps = [Step(0, "FORK", 1, 0x101), Step(0, "FORK", 2, 0x102), Step(0, "WRITE", cell, 0x103, 4),
+                 *(Step(1, "WRITE", byte + k, 0x201, 1) for k in range(3)), Step(2, "JOIN", 1, 0x301),
+                 *(Step(2, "READ", byte + k, 0x302, 1) for k in range(3)), Step(2, "WRITE", cell, 0x303, 4)]
+        path.write_bytes(HEADER + b"".join(entry(*step) for step in steps))
+        self.assertEqual(found(path, recorder.BUILT / "shb-std"), ({(0x103, 0x303): {(0, cell)}}, 1))
 
     def test_a_record_that_is_read_a_few_entries_at_a_time(self):
         few = test_open.planted(self.folder / "few", "records.c", "AT_ONCE = 1 << 16", "AT_ONCE = 3")
@@ -239,13 +278,9 @@ FAULTS = {  # to plant in the converter: the file, what stands there, and what i
                                                  "orders"),
     "the first section behind another thread's": ("objects.c", "= orders_others.at[orders_others.count - 1] "
                                                   "= 1;", "= 1;"),
-    "an atomic read stands for a plain one": ("accesses.c", " | (u32)u->reads << 31", ""),
+    "an atomic read stands for a plain one": ("accesses.c", " | (u64)u->reads << 63", ""),
     "repeats": ("accesses.c", " && last->writes == this.writes", ""),
     "every write is the last": ("accesses.c", "if (i < p->last_write) {", "if (0) {"),
-    "a read settles before the last write": ("accesses.c", "return i > piece_of(number)->last_write && ",
-                                             "return "),
-    "a read settles what several threads wrote": ("accesses.c", " && !use_of_piece(number)->writers.many",
-                                                  ""),
     "who writes atomically is no writer": ("accesses.c", "    add_thread(&p->writers", "    if (u.writes) "
                                            "add_thread(&p->writers"),
     "fences": ("objects.c", "if (releases(i)) threads[thread_of(i)].is_fenced = 1;", ""),
@@ -274,6 +309,18 @@ FAULTS = {  # to plant in the converter: the file, what stands there, and what i
 }
 
 
+FAULTS_OF_BUNDLES = {
+    "no last use": ("bundles.c", "u->is_pending = 1;", "u->is_pending = 0;"),
+    "no first use of a later phase": ("bundles.c", "u->phase != b->phase", "!u->phase"),
+    "who writes reads": ("bundles.c", 'b->writer ? "w" : "r"', '"r"'),
+    "reading ends no phase of another's writing": ("bundles.c", "(writes || b->writer)", "writes"),
+    "writing ends no phase of reading": ("bundles.c", "(writes || b->writer)", "b->writer"),
+    "a last use behind its phase": ("bundles.c", "for (u32 k = b->users;", "for (u32 k = 0;"),
+    "an atomic is in a bundle": ("bundles.c", "{ history_of(number)->last = APART; }",
+                                 "{ note_history(number, 0, 0); }"),
+    "a page has other numbers": ("events.c", "        meet_span();\n        events++;\n    }\n    threads",
+                                 "        meet_span();\n    }\n    threads"),
+}
 FAULTS_OF_PAGES = {
     "no page for what is written atomically": ("page.c", "if (!sign) return;", "return;"),
     "visits of other variables aren't counted": ("accesses.c", "if (!made && !is_kept) return;",
@@ -285,7 +332,26 @@ FAULTS_OF_PAGES = {
 }
 
 
+def bundling(folder, *fault):
+    """The converter with bundles however few uses they have, and a fault."""
+    few = "bundles.c", "if (of_bundles < uses / 2)", "if (0)"
+    return test_open.planted(folder, *few, *fault)
+
+
 class Planted(recorder.Case):
+    def test_each_fault_of_bundles_is_found(self):
+        for number, (fault, planted) in enumerate(FAULTS_OF_BUNDLES.items()):
+            with self.subTest(fault):
+                converter = bundling(self.folder / f"bundles{number}", *planted)
+                self.assertTrue(any(self.has_other_races(converter, seed) for seed in range(300)))
+
+    def has_other_races(self, converter, seed):
+        steps, path = draw_record(self.folder, seed)
+        try:
+            return differs(steps, found(path, converter)[0]) is not None
+        except Refused:
+            return True
+
     def test_each_fault_of_pages_is_found(self):
         for number, (fault, (name, before, after)) in enumerate(FAULTS_OF_PAGES.items()):
             with self.subTest(fault):

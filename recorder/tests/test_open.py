@@ -121,15 +121,17 @@ def accesses(trace, variables):
     return {line for line, _, variable in found if variable in variables}
 
 
-def planted(folder, name, before, after):
-    """The converter with another text at one place of its sources."""
+def planted(folder, *changes):
+    """The converter with another text at one place of its sources, or at several: the file's name, what
+    stands there, and what in its place."""
     shutil.copytree(recorder.SOURCES / "converter", folder / "converter")
     shutil.copy(recorder.SOURCES / "record.h", folder)
-    path = folder / "converter" / name
-    text = path.read_text()
-    if text.count(before) != 1:
-        raise AssertionError(f"{name} has {text.count(before)} times {before}")
-    path.write_text(text.replace(before, after))
+    for name, before, after in zip(*[iter(changes)] * 3):
+        path = folder / "converter" / name
+        text = path.read_text()
+        if text.count(before) != 1:
+            raise AssertionError(f"{name} has {text.count(before)} times {before}")
+        path.write_text(text.replace(before, after))
     recorder.must(recorder.call("gcc", "-w", "-O0", "-mpopcnt", *sorted((folder / "converter").glob("*.c")),
                                 "-o", folder / "shb-std"))
     return folder / "shb-std"

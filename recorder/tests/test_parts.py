@@ -5,7 +5,7 @@ import re
 
 import recorder
 from shb_common.uses import Uses
-from shb_common.progress import Progress
+from shb_common.standard import Progress
 from shb_common.report import Report
 from shb_common.stacks import Stacks
 from shb_view.result import document

@@ -314,7 +314,6 @@ OMITTED = [  # entries of a record, and the lines that each becomes: of reads th
     (entry(1, "READ", CELL, 0x201, 4), [f"T1|r({CELL:#x})|0x201"]),  # it is another value
     (entry(1, "WRITE", CELL + 8, 0x202, 4), [f"T1|w({CELL + 8:#x})|0x202"]),
     (entry(1, "READ", CELL, 0x201, 4), []),  # it is written no more
-    (entry(1, "READ", CELL, 0x203, 4), []),  # nor raced with at any location
     (entry(0, "READ", CELL + 8, 0x105, 4), [f"main|r({CELL + 8:#x})|0x105"]),
 ]
 

@@ -149,20 +149,6 @@ class Uses(recorder.Case):
                          sorted([[name, "0x102", "0x201"], [name, "0x202", "0x103"], [name, "0x202", "0x104"],
                                  [f"{name}!T1", "0x204", "0x103"]]))
 
-    def test_what_an_omitted_read_saw(self):
-        """Behind the last write of a variable that one thread writes, atomically too."""
-        record, page = self.folder / "app.rec", self.folder / "page.std"
-        record.write_bytes(HEADER + entry(0, "FORK", 1, 0x101) + b"".join(entry(*access) for access in (
-            (0, "ATOMIC_STORE", RANGE, 0x102, 4), (0, "WRITE", RANGE, 0x103, 4), (1, "READ", RANGE, 0x201, 4),
-            (1, "READ", RANGE, 0x202, 4))))
-        self.assertEqual(recorder.listed(record, page), {(("0x103", "0x201"), hex(RANGE))})
-        lines = page.with_suffix(".uses").read_text().splitlines()
-        self.assertEqual(sorted(line.split("\t")[1:] for line in lines if line.startswith("seen\t")),
-                         sorted([name, written, read] for read in ("0x201", "0x202")
-                                for name, written in ((hex(RANGE), "0x103"), (f"{RANGE:#x}!main", "0x102"))))
-        self.assertEqual({line for line in lines if line.startswith("repeated\t")},
-                         {"repeated\t5", "repeated\t6"})
-
     def test_a_late_access_that_stands_for_earlier_ones(self):
         """The last entry of these comes twice, and says so; with and without that."""
         self.assertEqual(self.repeated(LATE_ENTRIES, "2 4"), ["main|r(0x40000000)|0x104"])
