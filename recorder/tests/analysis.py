@@ -102,8 +102,12 @@ class Analysis:
         return next((block for block in reversed(self.blocks) if block.covers(at)), Block(0, 0, 0))
 
     def access(self, t, step, kind, size):
-        for at in range(step.address, step.address + size):
-            self.access_byte(t, step.place, kind, (self.block_at(at).number, at))
+        first, behind = step.address, step.address + size
+        while first < behind:  # the bytes of a grain are in one block
+            block, end = self.block_at(first).number, min(behind, (first // GRAIN + 1) * GRAIN)
+            for at in range(first, end):
+                self.access_byte(t, step.place, kind, (block, at))
+            first = end
 
     def access_byte(self, t, place, kind, byte):
         """A read sees the last plain write; a plain one also the last atomic write of each thread. An atomic

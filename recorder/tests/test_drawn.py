@@ -5,6 +5,7 @@ What decides which accesses `shb` is given, and of which variable, is in the con
 be found, which is tested too.
 """
 
+import functools
 import io
 import re
 import types
@@ -109,13 +110,24 @@ def come(file, late, draw):
     late.clear()
 
 
-def draw_record(folder, seed):
-    """The steps of a drawn record, which is written to a file."""
+@functools.lru_cache(maxsize=None)  # several tests take the same ones
+def drawn_record(seed):
+    """A drawn record, and the bytes that race in it by two places, each as (number of the block, address or
+    offset)."""
     drawn = Drawn(seed)
     drawn.late = drawn.draw.choice((0, 0, 0.3, 0.8))
+    analysis = Analysis(drawn.steps)
+    at = {block.number: block.at for block in analysis.blocks}
+    return file_of(drawn, drawn.draw), {place: {(block, byte - at.get(block, 0)) for block, byte in racing}
+                                        for place, racing in analysis.races.items()}
+
+
+def draw_record(folder, seed):
+    """The bytes that race in a drawn record, which is written to a file."""
+    record, wanted = drawn_record(seed)
     path = folder / "app.rec"
-    path.write_bytes(file_of(drawn, drawn.draw))
-    return drawn.steps, path
+    path.write_bytes(record)
+    return wanted, path
 
 
 def listed(path, converter):
@@ -151,13 +163,9 @@ def bytes_in(races):
     return found
 
 
-def differs(steps, found):
+def differs(wanted, found):
     """What of these places isn't as the analysis has it, or nothing. A variable is named by its first byte;
     the bytes behind it that race at the same place are of it too."""
-    analysis = Analysis(steps)
-    at = {block.number: block.at for block in analysis.blocks}
-    wanted = {place: {(block, byte - at.get(block, 0)) for block, byte in racing}
-              for place, racing in analysis.races.items()}
     if found.keys() != wanted.keys():
         return "places", sorted(found.keys() ^ wanted.keys())
     for place, racing in wanted.items():
@@ -173,18 +181,18 @@ class Decided(recorder.Case):
         traces = set()
         converter = bundling(self.folder / "bundling")
         for seed in range(150):
-            steps, path = draw_record(self.folder, seed)
+            wanted, path = draw_record(self.folder, seed)
             races, count = found(path, converter)
-            self.assertIsNone(differs(steps, races), seed)
+            self.assertIsNone(differs(wanted, races), seed)
             traces.add(count)
         self.assertEqual(traces, {1, 2, 3})
 
     def test_the_list_has_the_races_of_the_record(self):
         places = 0
         for seed in range(300):
-            steps, path = draw_record(self.folder, seed)
+            wanted, path = draw_record(self.folder, seed)
             found = listed(path, recorder.BUILT / "shb-std")
-            self.assertIsNone(differs(steps, found), seed)
+            self.assertIsNone(differs(wanted, found), seed)
             places += len(found)
         self.assertGreater(places, 1000)
 
@@ -346,9 +354,9 @@ class Planted(recorder.Case):
                 self.assertTrue(any(self.has_other_races(converter, seed) for seed in range(300)))
 
     def has_other_races(self, converter, seed):
-        steps, path = draw_record(self.folder, seed)
+        wanted, path = draw_record(self.folder, seed)
         try:
-            return differs(steps, found(path, converter)[0]) is not None
+            return differs(wanted, found(path, converter)[0]) is not None
         except Refused:
             return True
 
@@ -370,9 +378,9 @@ class Planted(recorder.Case):
 
     def is_found(self, converter):
         for seed in range(300):
-            steps, path = draw_record(self.folder, seed)
+            wanted, path = draw_record(self.folder, seed)
             try:
-                if differs(steps, listed(path, converter)):
+                if differs(wanted, listed(path, converter)):
                     return True
             except AssertionError:
                 return True  # it can't go on
