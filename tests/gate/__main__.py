@@ -11,8 +11,9 @@
 earlier run on this machine has proved of the same files over the same libraries. As soon as a crate is proved
 its edits are tried over the libraries that are built by then (joint.py), those that the record (record.py)
 doesn't answer for and of the others a tenth; as soon as the program is linked the tests of tests/, recorder/,
-python/ and packaging/ run on it, and what it costs is counted (tests/costs.py), two of these at once. Each
-part ends with a line 'N passed, N failed', and so does the whole.
+python/ and packaging/ run on it, and what it costs is counted (tests/costs.py), two of these at once. The
+first proofs leave room for worked examples as calls of the crates (tests/calls.py). Each part ends with a
+line 'N passed, N failed', and so does the whole.
 """
 
 import argparse
@@ -38,7 +39,8 @@ import steps
 ROOT = pathlib.Path(__file__).resolve().parent.parent.parent
 SUMS = ROOT / "tests" / "gate" / "refused.sums"
 MEMORY = 3_000_000_000  # a check of edits waits until so many bytes are free; most take less than 2.5 GB
-# the longest first
+CALLS = "tests/calls.py"  # of the crates, unproved: beside the first proofs
+# on the built program, the longest first
 SUITES = ("recorder/tests/run.py", "tests/run.py", "tests/costs.py", "python/tests/run.py",
           "packaging/tests/run.py")
 AT_ONCE = 2  # suites
@@ -134,8 +136,8 @@ class Edits:
         count.add(passed, len(told) - passed)
 
 
-def run_suite(script, program):
-    """Runs tests on the built program. The script's name, its status and output."""
+def run_suite(script, program=""):
+    """Runs tests, on the built program if they need it. The script's name, its status and output."""
     words = [sys.executable, "-u", str(ROOT / script), str(program)]
     ran = subprocess.run(words, cwd=ROOT, stdin=subprocess.DEVNULL, stdout=subprocess.PIPE,
                          stderr=subprocess.STDOUT)
@@ -172,12 +174,13 @@ def run_gate(room, options):
         subprocess.Popen = steps.measured(options.steps, "edits")
     edits = Edits(room, options.all)
     with concurrent.futures.ThreadPoolExecutor(AT_ONCE) as pool:
+        calls = pool.submit(run_suite, CALLS)
         suites = prove(room, command, edits, pool, count)
         edits.ended(count)
         if not suites:
             count.add(0, 1)
             print("the program wasn't built, so its tests didn't run")
-        for script, status, said in (it.result() for it in suites):
+        for script, status, said in (it.result() for it in (calls, *suites)):
             print(f"== {script}\n{said}", end="" if said.endswith("\n") else "\n", flush=True)
             count.add_command(status, said)
     if options.record and not count.failed:
