@@ -26,7 +26,7 @@ class Answer(collections.namedtuple("Answer", "status said seconds kib", default
 
     @property
     def words(self):
-        return words_in(self.said)
+        return " ".join(without_note(self.said)[:MOST_WORDS].decode("utf-8", "backslashreplace").split())
 
 
 class Run:
@@ -83,10 +83,6 @@ def rewound(file):
     """An open file at its beginning, also for a child: Python's own `seek` may move in its buffer alone."""
     os.lseek(file.fileno(), 0, os.SEEK_SET)
     return file
-
-
-def words_in(said):
-    return " ".join(without_note(said)[:MOST_WORDS].decode("utf-8", "backslashreplace").split())
 
 
 def places_in(races):

@@ -30,12 +30,12 @@ FOREIGN = {
     rb"[^\t]* [^\t]*": "it has blanks",
 }
 # What differs by run in the name of a variable: line and number of a block, a stack, an index, an address.
-BLOCK = re.compile(rb"(.+):[0-9]+#[0-9]+((?:\+[0-9]+)?)", re.S)
-STACK = re.compile(rb"stack\..+-0x[0-9a-f]+", re.S)
-INDEX = re.compile(rb"\[[0-9]+\]")
-ADDRESS = re.compile(rb"(.+)~(?:0x)?[0-9a-f]+((?:[.+\[].*)?)", re.S)
-RAW = re.compile(rb"0x[0-9a-f]+(\+[0-9]+)?")    # memory without a name
-OFFSET = re.compile(rb"\+[0-9]+$")
+BLOCK = rb"(?s)(.+):[0-9]+#[0-9]+((?:\+[0-9]+)?)"
+STACK = rb"(?s)stack\..+-0x[0-9a-f]+"
+INDEX = rb"\[[0-9]+\]"
+ADDRESS = rb"(?s)(.+)~(?:0x)?[0-9a-f]+((?:[.+\[].*)?)"
+RAW = rb"0x[0-9a-f]+(\+[0-9]+)?"    # memory without a name
+OFFSET = rb"\+[0-9]+$"
 
 # A line of the file. `sides` has of each side whether it is a function, and its pieces; `variable` the pieces
 # of the third field, None where there is none.
@@ -55,7 +55,8 @@ class Side(collections.namedtuple("Side", "names functions", defaults=((),))):
                 *((True, name) for names in self.functions for name in names)]
 
     def field(self):
-        return location_field(self.names[0])
+        name = self.names[0]
+        return (name[:-2] + b"\\()" if name.endswith(CALL) else name).replace(b"*", b"\\*")
 
     def function(self):
         """The function as a field; None where it isn't known, is one of several, or ends with a backslash."""
@@ -74,10 +75,6 @@ def side_of(location, functions=()):
     return Side((written(location),), tuple((written(function),) for function in sorted(functions)))
 
 
-def location_field(location):
-    return (location[:-2] + b"\\()" if location.endswith(CALL) else location).replace(b"*", b"\\*")
-
-
 def line_of_fields(first, second, variable):
     line = b"\t".join([*sorted((first, second)), variable])
     return (b"\\" if line.lstrip(b"\\").startswith(b"#") else b"") + line + b"\n"
@@ -86,24 +83,24 @@ def line_of_fields(first, second, variable):
 def lasting(variable):
     """The name of a variable as a field, with stars for what differs from run to run."""
     name = written(variable).replace(b"*", b"\\*")
-    block = BLOCK.fullmatch(name)
+    block = re.fullmatch(BLOCK, name) if b"#" in name else None
     if block:
         return block[1] + b":*#*" + block[2]
-    if STACK.fullmatch(name):
+    if name.startswith(b"stack.") and re.fullmatch(STACK, name):
         return b"stack.*"
-    if RAW.fullmatch(name):
+    if name.startswith(b"0x") and re.fullmatch(RAW, name):
         return b"0x*"
-    address = ADDRESS.fullmatch(name)
+    address = re.fullmatch(ADDRESS, name) if b"~" in name else None
     if address:
         name = address[1] + b"~*" + address[2]
-    return INDEX.sub(b"[*]", name)
+    return re.sub(INDEX, b"[*]", name) if b"[" in name else name
 
 
 def lasting_names(variables):
     """The same of several variables, each once; of one object with many offsets a single name."""
     found = {}
     for name in sorted(set(map(lasting, variables))):
-        found.setdefault(OFFSET.sub(b"", name), []).append(name)
+        found.setdefault(re.sub(OFFSET, b"", name), []).append(name)
     return [one for base, names in sorted(found.items())
             for one in ([base + b"*"] if len(names) > MOST_OFFSETS else names)]
 

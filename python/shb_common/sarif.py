@@ -37,6 +37,7 @@ BASES = {BASE: "The folder that relative file names start from: the repository."
 # what is known of a location, from what a reader can open best
 FOUND, RELATIVE, ABSOLUTE, NAME = range(4)
 
+PLAIN = str.maketrans({sign: f"\\{sign}" for sign in "\\[]"})
 OTHERS = {1: "The other access.", 2: "An access."}   # what is related to a result
 MOST_NAMED = 3          # variables in a message
 
@@ -197,7 +198,7 @@ def result_of(alert, sources, seen):
 
 def plain(text):
     """A text in a message, where brackets begin a link and backslashes escape."""
-    return re.sub(r"([\\\[\]])", r"\\\1", text)
+    return text.translate(PLAIN)
 
 
 def log(alerts, sources, notifications, is_whole, status):

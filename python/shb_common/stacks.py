@@ -14,8 +14,8 @@ from shb_common.words import printable
 BEGIN = re.compile(rb"shb-stacks 1 ([0-9]{20})\n")
 BEGIN_BYTES = 34
 NUMBER_BYTES = 4    # of an event's stack
-BLOCK = re.compile(rb".*#([0-9]{1,18})(?:\+[0-9]+)?", re.S)  # a variable in a block, as the recorder names it
-QUALIFIERS = re.compile(rb"(?: const| volatile)+$")
+BLOCK = rb"(?s).*#([0-9]{1,18})(?:\+[0-9]+)?"  # a variable in a block, as the recorder names it
+QUALIFIERS = rb"(?: const| volatile)+$"
 ORDERS = b"relaxed", b"acquire", b"release", b"both"
 USES = b"load", b"store", b"update", b"fence"
 NUMBERED = b"stack", b"block", b"free"
@@ -25,7 +25,7 @@ MOST_DEEP = 200  # calls of a stack that are looked at
 MOST_FRAMES = 2_000  # of these calls, of which inlined code has several each
 MOST_LINE = 1 << 20  # bytes of a line
 MOST_DIGITS = 18    # of a number
-SUM = re.compile(rb"[0-9a-f]{16}")  # of a line's text
+SUM_DIGITS = 16  # of a line's text
 
 # A function and the place in it. The location is empty if it called code without hooks, which called on.
 Frame = collections.namedtuple("Frame", "function location in_system")
@@ -172,7 +172,7 @@ class Stacks:
 
     def of_variable(self, name):
         """Where the block of a variable was allocated."""
-        found = BLOCK.fullmatch(name)
+        found = re.fullmatch(BLOCK, name) if b"#" in name else None
         return self.stack(self.blocks.get(int(found[1]), 0)) if found else ()
 
 
@@ -191,7 +191,7 @@ def whole(text):
 
 
 def sum_of(text):
-    if not SUM.fullmatch(text):
+    if len(text) != SUM_DIGITS or text.strip(b"0123456789abcdef"):
         raise ValueError
     return text
 
@@ -207,7 +207,7 @@ def use_of(text):
 @functools.lru_cache(maxsize=1024)
 def bare(function):
     """A function's name without its parameters, and without arguments of templates."""
-    name = QUALIFIERS.sub(b"", function)
+    name = re.sub(QUALIFIERS, b"", function) if function.endswith((b" const", b" volatile")) else function
     if name.endswith(b")") and not name.endswith(b"operator()"):
         name = name[:opening(name)]
     if b"operator" in name or b"->" in name:

@@ -3,7 +3,7 @@
 import re
 
 # A member of a block's type, followed by the block if a trace has several of the type.
-IN_BLOCK = re.compile(rb"(.+?) of .+(?::[0-9]+|\+0x[0-9a-f]+)#[0-9]+", re.S)
+IN_BLOCK = rb"(?s)(.+?) of .+(?::[0-9]+|\+0x[0-9a-f]+)#[0-9]+"
 MOST_VARIABLES = 1_000  # of a place, that are kept
 
 
@@ -27,7 +27,7 @@ def variable_of(race):
 
 def without_block(name):
     """The name of a member of a block's type without the block, which differs by run; else the same name."""
-    found = IN_BLOCK.fullmatch(name)
+    found = re.fullmatch(IN_BLOCK, name) if b"#" in name else None
     return found[1] if found else name
 
 

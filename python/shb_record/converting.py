@@ -25,7 +25,6 @@ KILLED = CUTS[0] + "the program was killed"
 CRASHED = "the program crashed: "
 NOT_WHOLE = 1  # shb-std's status where the trace is a part of the run
 HEADER_BYTES, ENTRY_BYTES = 65536, 16  # record.h says where an entry has its thread and operation
-MODULE = re.compile(rb"^[0-9a-f]+ [0-9a-f]+ [0-9a-f]+ (.+)$", re.M)
 LINE_BYTES = 64  # about those of an event in a trace
 BUNDLE = b"~"  # at the end of a bundle's name
 MOST_FINER = 2  # traces after a coarse one
@@ -73,25 +72,22 @@ class Records:
 
 def process_of(record, name, base):
     with open(record, "rb") as file:
-        header = file.read(HEADER_BYTES).partition(b"\0")[0]
-    command = re.search(rb"^command (.*)$", header, re.M)
-    words = command[1].decode(errors="backslashreplace").strip() if command else "?"
-    modules = [path.replace(b"\1", b"\n") for path in MODULE.findall(header)]
-    return Process(name, base, words, record, modules, replay_in(header))
+        lines = file.read(HEADER_BYTES).partition(b"\0")[0].split(b"\n")
+    fields = dict(line.partition(b" ")[::2] for line in lines)
+    command = fields.get(b"command", b"?").decode(errors="backslashreplace").strip()
+    modules = [line.split(b" ", 3)[3].replace(b"\1", b"\n") for line in lines[2:] if line.count(b" ") > 2]
+    replay = replay_of(fields[b"replays"], fields.get(b"replayed")) if b"replays" in fields else None
+    return Process(name, base, command, record, modules, replay)
 
 
-def replay_in(header):
-    """How far a process followed a list of turns, by its record; None where it had none."""
-    there, done = (re.search(rb"^%s (\d+)$" % word, header, re.M) for word in (b"replays", b"replayed"))
-    if not there:
-        return None
-    if not done:
-        return (f"a list of {int(there[1]):,} turns was followed, until the program was killed or became "
-                "another one")
-    if done[1] == there[1]:
-        return f"all {int(there[1]):,} turns of the list were followed"
-    return (f"the replay was left after {int(done[1]):,} of {int(there[1]):,} turns; from there on slices "
-            "were drawn")
+def replay_of(there, done):
+    """How far a process followed a list of so many turns."""
+    there, done = int(there), done and int(done)
+    if done is None:
+        return f"a list of {there:,} turns was followed, until the program was killed or became another one"
+    if done == there:
+        return f"all {there:,} turns of the list were followed"
+    return f"the replay was left after {done:,} of {there:,} turns; from there on slices were drawn"
 
 
 def check_room(process, most_events):
@@ -265,10 +261,9 @@ class Conversion:
         if status not in (0, NOT_WHOLE):
             how = f"status {status}" if status > 0 else f"signal {-status}"
             raise Refused(f"{self.process.name}: {'; '.join(said) or f'shb-std ended with {how}'}")
-        is_size = re.compile(r"\d+ records, ").match
-        self.size = ", ".join(re.sub(r"\d+", lambda number: f"{int(number[0]):,}", line)
-                              for line in said if is_size(line))
-        self.notes = [line for line in said if not is_size(line)]
+        sizes = [line for line in said if re.match(r"\d+ records, ", line)]
+        self.size = ", ".join(re.sub(r"\d+", lambda number: f"{int(number[0]):,}", line) for line in sizes)
+        self.notes = [line for line in said if line not in sizes]
         self.cuts = [note for note in self.notes if note.startswith(CUTS)] if status == NOT_WHOLE else []
 
 

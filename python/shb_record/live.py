@@ -27,10 +27,8 @@ class Segments:
         """The segments that are there, those that were written to last at the end."""
         found = []
         for path in files_in(self.folder, "run1.*.rec"):
-            try:
+            with contextlib.suppress(FileNotFoundError):    # the recorder has dropped it
                 found.append((os.stat(path).st_mtime_ns, segment_of(path), path))
-            except FileNotFoundError:
-                pass  # the recorder has dropped it
         return [path for _, _, path in sorted(found)]
 
     def closed(self):

@@ -33,8 +33,10 @@ class Modules:
 
     def add(self, paths):
         for path in paths:
-            if (b"/" in path and not is_of_the_system(os.path.basename(path))
-                and not path.startswith(os.fsencode(LIBRARY))):
+            name = os.path.basename(path)
+            is_of_the_system = (name.startswith(LOADERS)
+                                or name.replace(b"-", b".").partition(b".")[0] in OF_THE_SYSTEM)
+            if b"/" in path and not is_of_the_system and not path.startswith(os.fsencode(LIBRARY)):
                 self.kinds[path] = told(path, "kind")
 
     def those(self, kind, paths=None):
@@ -86,10 +88,6 @@ class Modules:
         others = self.names(b"file", self.those(b"hooked", paths))
         return {(file, name) for path in self.those(b"bare", paths) for name in [os.path.basename(path)]
                 for file in {name, *self.names(b"file", [path]) - others}}
-
-
-def is_of_the_system(name):
-    return name.startswith(LOADERS) or name.replace(b"-", b".").partition(b".")[0] in OF_THE_SYSTEM
 
 
 def named(paths, called):

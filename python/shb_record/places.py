@@ -2,6 +2,7 @@
 
 import collections
 import os
+import re
 
 from shb_common import known, places
 from shb_common.programs import pair_of
@@ -92,7 +93,7 @@ class Places(places.Places):
         that isn't new where blocks race."""
         lasting = known.lasting(name)
         is_lost = (self.is_endless and lasting == NAMELESS
-                   and any(map(known.BLOCK.fullmatch, self.seen[key].variables)))
+                   and any(re.fullmatch(known.BLOCK, variable) for variable in self.seen[key].variables))
         return not is_lost and (key, lasting) not in self.known_before
 
     def unknown_of(self, new):

@@ -1,4 +1,2 @@
-"""Races of a report explained, as text and as a page. `python/shb-view` is the command.
-
-Outside the proved claims: it shows what a report says, and `shb check` judges a report.
-"""
+"""Races of a report explained, as text and as a page (`python/shb-view`). It is outside the proved claims: it
+shows what a report says, and `shb check` judges a report."""

@@ -1,6 +1,7 @@
 """The facts of groups. One whose variables differ has a part for those that are alike."""
 
 import collections
+import re
 
 from shb_common.result import text
 from shb_common.stacks import bare
@@ -62,7 +63,8 @@ class Facts:
 
     def with_gone(self, group, fact):
         """A fact, with the lines that use a local of another thread when that has the system's ones there."""
-        owners = {found["base"][len(b"stack."):] for found in map(ON_STACK.fullmatch, group.names) if found}
+        found = [re.fullmatch(ON_STACK, name) for name in group.names if name.startswith(b"stack.")]
+        owners = {parts["base"][len(b"stack."):] for parts in found if parts}
         if len(owners) != 1 or fact.form not in ("no-lock", "apart"):
             return fact
         [owner], lines = owners, set()

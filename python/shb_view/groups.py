@@ -11,11 +11,11 @@ from shb_view.words import Code
 
 # Names as the recorder writes them: of a variable on a stack; of a member of a block's type, with the block;
 # of any other one, which may be a local `of` a function.
-ON_STACK = re.compile(rb"(?P<base>stack\..*)(?P<block>)(?P<inside>-0x[0-9a-f]+)(?P<of>)", re.S)
+ON_STACK = rb"(?s)(?P<base>stack\..*)(?P<block>)(?P<inside>-0x[0-9a-f]+)(?P<of>)"
 INSIDE = rb"(?P<inside>(?:\.[A-Za-z_]\w*|\[[0-9]+\])*(?:\+[0-9]+)?)"
-IN_BLOCK = re.compile(rb"(?P<base>.+?)" + INSIDE
-                      + rb"(?P<of> of .+(?::[0-9]+|\+0x[0-9a-f]+))(?P<block>#[0-9]+)", re.S)
-NAME = re.compile(rb"(?P<base>.*?)(?P<block>#[0-9]+)?" + INSIDE + rb"(?P<of>(?: of .+)?)", re.S)
+IN_BLOCK = (rb"(?s)(?P<base>.+?)" + INSIDE
+            + rb"(?P<of> of .+(?::[0-9]+|\+0x[0-9a-f]+))(?P<block>#[0-9]+)")
+NAME = rb"(?s)(?P<base>.*?)(?P<block>#[0-9]+)?" + INSIDE + rb"(?P<of>(?: of .+)?)"
 
 
 class Pair:
@@ -155,7 +155,9 @@ class Gathered:
 
 
 def name_parts(variable):
-    return ON_STACK.fullmatch(variable) or IN_BLOCK.fullmatch(variable) or NAME.fullmatch(variable)
+    on_stack = re.fullmatch(ON_STACK, variable) if variable.startswith(b"stack.") else None
+    in_block = re.fullmatch(IN_BLOCK, variable) if b"#" in variable else None
+    return on_stack or in_block or re.fullmatch(NAME, variable)
 
 
 def object_of(group):

@@ -5,7 +5,6 @@ of the program's sources."""
 import collections
 import functools
 import os
-import re
 
 from shb_common import sources
 from shb_common.locations import line_of
@@ -14,7 +13,6 @@ from shb_view.names import readable
 
 BEFORE, AFTER = 3, 2  # lines around one that is shown
 REACH = 12  # lines before one that is shown, back to the acquire of a lock
-HEAD = re.compile(rb"[A-Za-z_$]")  # what the first line of a function begins with
 
 
 class Place(collections.namedtuple("Place", "path number lines fault is_newer")):
@@ -95,7 +93,7 @@ def function_head(place):
     """The number of the line that a place's function begins with, or 0: the last one with a letter first."""
     for number in range(place.number, 0, -1):
         line = place.lines[number - 1]
-        if HEAD.match(line) and not line.rstrip().endswith(b":"):
+        if (line[:1].isalpha() or line.startswith((b"_", b"$"))) and not line.rstrip().endswith(b":"):
             return number
     return 0
 

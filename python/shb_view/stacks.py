@@ -1,6 +1,7 @@
 """What is shown of call stacks."""
 
 import itertools
+import re
 
 from shb_common.known import OFFSET
 from shb_common.locations import parts_of
@@ -32,7 +33,7 @@ def origins(view, section):
     once."""
     threads = sorted({thread for site in section.sites if site.partners for thread in site.threads})
     found = told_together("thread", "created", [(it, view.stacks.of_thread(it)) for it in threads])
-    blocks = {OFFSET.sub(b"", name): view.stacks.of_variable(name)
+    blocks = {re.sub(OFFSET, b"", name): view.stacks.of_variable(name)
               for name in map(view.kinds.in_trace, section.group.names)}
     found += told_together("block", "allocated", blocks.items())
     window = section.window

@@ -2,7 +2,7 @@
 
 import side_by_side
 from shb_common import known
-from shb_common.known import (BadLine, Known, lasting, line_of_fields, lines_of, location_field, matches,
+from shb_common.known import (BadLine, Known, lasting, line_of_fields, lines_of, matches,
                               pieces_of, side_of, words_of_stale, written)
 from shb_common.programs import Names
 
@@ -25,7 +25,7 @@ def sides(*pair, functions=None):
 
 def line_of(pair, variable):
     """The line that makes this variable known at these two locations, and nothing else."""
-    return line_of_fields(*map(location_field, pair), written(variable).replace(b"*", b"\\*"))
+    return line_of_fields(*(side_of(one).field() for one in pair), written(variable).replace(b"*", b"\\*"))
 
 
 class KnownPlaces(side_by_side.Case):

@@ -5,7 +5,7 @@ import io
 import farm
 from farm import BAD_WORDS, RACE
 from shb_common import refused
-from shb_common.analyser import words_in
+from shb_common.analyser import REFUSED, Answer
 
 OPERATION = "the operation is not known"
 BLANKS = "there are blanks around the bar: write THREAD|OPERATION|LOCATION without them"
@@ -63,7 +63,7 @@ class Refused(farm.Case):
 
     def test_the_note_on_a_mark_is_no_reason(self):
         """`shb` says it of any trace; the hint stays."""
-        self.assertEqual(words_in(b"line 1: the thread name is empty\n" + refused.NOTE),
+        self.assertEqual(Answer(REFUSED, b"line 1: the thread name is empty\n" + refused.NOTE).words,
                          "line 1: the thread name is empty")
         self.trace("bad.std", b"\xef\xbb\xbf# a comment\n")
         self.assertIn("\nrefused  bad.std  line 1: the line has no operation field; it is `\\ufeff# a "
