@@ -82,7 +82,7 @@ def main(memcached, runs="3"):
         environment = {**os.environ, "PYTHONPYCACHEPREFIX": f"{folder}/compiled", "SHB_SEED": "1",
                        "TSAN_OPTIONS": "report_bugs=0"}
         environment.pop("PYTHONDONTWRITEBYTECODE", None)
-        record = [sys.executable, TOP / "python/shb-record", "-o", f"{folder}/results"]
+        record = [sys.executable, "-S", TOP / "python/shb-record", "-o", f"{folder}/results"]
         path = os.path.abspath(memcached)
         rows = [(served([], path, environment, folder), served(record, path, environment, folder))
                 for _ in range(int(runs))]

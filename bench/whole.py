@@ -5,12 +5,12 @@
                                                  -fsanitize=thread
     whole.py RUNS -- PROGRAM [WORD..]            a program that was built with the flag, with these words
 
-Each is run with gcc's library, which reports nothing, and by shb-record with seed 1, in turn, in a folder of
-its own; the built analyser is bin/shb, or what SHB names. The first run compiles Python's modules; an
-installation has compiled ones. CPU seconds are user and system time with those of all processes that were
-started, the least of RUNS runs (3); memory is the most that one of them had. The phases are run by
-themselves: recording, shb-std's coarse trace of the run, and the analyser on it; what the whole takes besides
-is the rest, with a finer trace if the program needs one.
+Each is run with gcc's library, which reports nothing, and by shb-record with seed 1, in turn, in a folder
+of its own; shb-record as its first line starts it (-S); the built analyser is bin/shb, or what SHB names.
+The first run compiles Python's modules; an installation has compiled ones. CPU seconds are user and
+system time with those of all processes that were started, the least of RUNS runs (3); memory is the most
+that one of them had. The phases are run by themselves: recording, shb-std's coarse trace of the run, and
+the analyser on it; what the whole takes besides is the rest, with a finer trace if the program needs one.
 """
 
 import os
@@ -48,7 +48,7 @@ def whole(words, runs, folder, environment):
     """The least seconds of ThreadSanitizer and of shb-record, and the most memory of the latter."""
     least, memory = {}, 0
     ways = {"tsan": (words, {"TSAN_OPTIONS": "report_bugs=0"}),
-            "all": ([sys.executable, TOP / "python/shb-record", "-o", folder / "results",
+            "all": ([sys.executable, "-S", TOP / "python/shb-record", "-o", folder / "results",
                      *words], {"SHB_SEED": "1"})}
     for _ in range(runs):
         for way, (command, more) in ways.items():
