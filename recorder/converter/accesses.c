@@ -13,7 +13,7 @@ void add_to_list(u32 *list, u32 thread) {
     *list = list_entries.count;
 }
 
-static u64 end_of(u64 i) { return address_of(i) + accessed_bytes(i); }
+static u64 end_of(const entry *e) { return e->address + accessed_bytes(e); }
 
 /* What the passes know of each record, for the next: whether it means more than an access, and what it
    accesses, or 0. Until the third pass that is the block, plus one, in which the access begins; from there on
@@ -23,47 +23,82 @@ static known_record *known;
 
 int is_passed_over(u64 i) { return !known[i].accessed && !known[i].means_more; }
 
-/* ---- 1: users of blocks; a range over several is shared, to be cut at their bounds ---- */
-static void use_block(block *b, u32 t, int with_others) {
-    if (!b) return;
-    add_thread(&b->users, t);
+/* ---- 1: users of blocks; a range over several is shared, to be cut at their bounds. What is shared is cut
+   into pieces. ---- */
+static void use_block(block *b, const entry *e, int with_others) {
+    if (!b || b->users.many) return;
+    add_thread(&b->users, e->thread);
     if (with_others) b->users.many = 1;
+    if (b->users.many) b->shared_at = e->number;
 }
 
-static int means_more(u64 i) {
-    enum operation operation = operation_of(i);
-    return late_context(i)
+static int means_more(const entry *e) {
+    enum operation operation = e->operation;
+    return e->is_late
         || (operation > OP_WRITE && operation != OP_FREE && operation != OP_USE && operation != OP_DESTROY);
 }
 
 /* Not so where an access that is late, with its context beside it, is none of the trace: its memory is of one
    thread alone. */
-int means_access(u64 i) { return !late_context(i) || known[i].accessed; }
+int means_access(const entry *e) { return !e->is_late || known[e->number].accessed; }
 
-void find_users(u64 i) {
-    u64 end = end_of(i);
-    if (!known) known = zeroed(record_count, sizeof *known);
-    known[i].means_more = means_more(i);
-    if (end == address_of(i)) return;
-    block *first = block_at(address_of(i));
-    known[i].accessed = block_number(first) + 1;
-    if (in_one_grain(address_of(i), end)) use_block(first, thread_of(i), 0);
-    else for (u64 at = address_of(i); at < end; at = next_cut(at, end)) {
-        block *b = block_at(at);
-        use_block(b, thread_of(i), b != first);
-        if (b != first) use_block(first, thread_of(i), 1);
-    }
+static void cut_access(const entry *e, u64 end) {
+    note_caller(e->caller);
+    cut(e->address, e->operation == OP_FREE ? e->address : end);
 }
 
-/* ---- 2: cuts ---- */
-void find_cuts(u64 i) {
-    if (!known[i].accessed) return;
-    block *b = block_of(known[i].accessed - 1);
-    if (b && !b->users.many) known[i].accessed = 0;
-    else {
-        note_caller(caller_of(i));
-        cut(address_of(i));
-        if (operation_of(i) != OP_FREE) cut(end_of(i));
+/* What is known of accesses of the same bytes that were met lately, as long as there is no new block. found:
+   0 of new ones. steps: those of ranges that it took. */
+typedef struct { u64 address, end, state, steps; u32 found; } recent_access;
+
+static recent_access *recent_access_of(u64 address, u64 end) {
+    enum { RECENT = 1 << 12 };
+    static recent_access recent[RECENT];
+    recent_access *a = &recent[(address ^ address / RECENT) % RECENT];
+    if (a->address != address || a->end != end || a->state != memory_state)
+        *a = (recent_access){.address = address, .end = end, .state = memory_state};
+    return a;
+}
+
+static int is_shared_block(const block *b) { return !b || b->users.many; }
+
+static u32 find_blocks(const entry *e, u64 end) {
+    const u32 number = number_at(e->address);
+    block *first = block_of(number);
+    use_block(first, e, 0);
+    for (u64 at = end_of_same(e->address, end); at < end; at = end_of_same(at, end)) {
+        block *b = block_at(at);
+        use_block(b, e, b != first);
+        if (b != first) use_block(first, e, 1);
+    }
+    if (is_shared_block(first)) cut_access(e, end);
+    return number + 1;
+}
+
+void find_users(const entry *e) {
+    u64 end = end_of(e);
+    if (!known) known = zeroed(record_count, sizeof *known);
+    known_record *k = &known[e->number];
+    k->means_more = means_more(e);
+    if (end == e->address) return;
+    recent_access *a = recent_access_of(e->address, end);
+    const int is_cut = a->found && is_shared_block(block_of(a->found - 1)) && e->operation != OP_FREE;
+    if (is_cut) note_caller(e->caller);
+    else a->found = find_blocks(e, end);
+    k->accessed = a->found;
+    if (e->operation == OP_FREE) a->found = 0;
+}
+
+/* ---- 2: cuts by what accessed a block before another thread did; what has one user alone is left ---- */
+void find_earlier_cuts(void) {
+    for (u64 i = 0, end = 0; i < record_count; i++) {
+        if (i == end) end = next_records(i);
+        const block *b = known[i].accessed ? block_of(known[i].accessed - 1) : 0;
+        if (b && !b->users.many) known[i].accessed = 0;
+        else if (b && i < b->shared_at) {
+            const entry e = entry_at(i);
+            cut_access(&e, end_of(&e));
+        }
     }
 }
 
@@ -71,86 +106,97 @@ void find_cuts(u64 i) {
 /* own, site: in the fourth pass, once one of its pieces is shared; else 0 */
 typedef struct { u32 thread; int writes, writes_atomically, reads; u64 own; u32 site; } use;
 
-static use use_of(u64 i) {
-    enum operation operation = operation_of(i);
-    int writes = operation == OP_WRITE || operation == OP_FREE || operation == OP_DESTROY;
-    return (use){.thread = thread_of(i), .writes = writes, .reads = operation == OP_READ,
-                 .writes_atomically = is_atomic(operation) && operation != OP_ATOMIC_LOAD};
+static use use_of(const entry *e) {
+    int writes = e->operation == OP_WRITE || e->operation == OP_FREE || e->operation == OP_DESTROY;
+    return (use){.thread = e->thread, .writes = writes, .reads = e->operation == OP_READ,
+                 .writes_atomically = is_atomic(e->operation) && e->operation != OP_ATOMIC_LOAD};
 }
 
-static void share_piece(u64 i, use u, u32 number) {
-    piece_use *p = use_of_piece(number);
-    if (is_coarse && (u.reads || u.writes)) note_history(number, u.thread, u.writes);
-    else if (is_coarse) stand_apart(number);
-    add_thread(&p->users, u.thread);
-    if (u.reads) add_thread(&p->readers, u.thread);
-    if (!u.writes && !u.writes_atomically) return;
-    add_thread(&p->writers, u.thread);
-    piece_of(number)->last_write = i;
-    p->written |= u.writes;
-    p->written_atomically |= u.writes_atomically;
-    if (u.writes_atomically && map_adds(&atomic_writers, number, u.thread))
-        add_to_list(&piece_of(number)->atomic_writers, u.thread);
+static int only_reads(const use *u) { return !u->writes && !u->writes_atomically; }
+
+static RARE void add_use(piece_use *p, const use *u, u32 number, u32 in_region) {
+    if (in_region == APART) p->last = APART;
+    else note_history(p, in_region);
+    add_thread(&p->users, u->thread);
+    if (u->reads) add_thread(&p->readers, u->thread);
+    if (only_reads(u)) return;
+    add_thread(&p->writers, u->thread);
+    p->written |= u->writes;
+    p->written_atomically |= u->writes_atomically;
+    if (u->writes_atomically && map_adds(&atomic_writers, number, u->thread))
+        add_to_list(&piece_of(number)->atomic_writers, u->thread);
 }
 
-/* Neighbours mostly have numbers that follow each other: so an access has runs of these. is_bundle: they
-   have one bundle, or all have none. */
-typedef struct { u32 first, count : 30, is_bundle : 1, is_last : 1; } run;
+/* Neighbours. Most uses are as the last one of the piece: by its thread, in the same region. */
+static inline void share_run(const entry *e, const use *u, u32 first, u32 count) {
+    const u32 in_region = u->reads || u->writes ? use_in_region(u->thread, u->writes) : APART;
+    piece_use *p = use_of_piece(first);
+    for (u32 k = 0; k < count; k++) {
+        p[k].uses += in_region != APART;
+        if (p[k].last != in_region || in_region == APART) add_use(&p[k], u, first + k, in_region);
+    }
+    piece *its = piece_of(first);
+    for (u32 k = 0; k < count && !only_reads(u); k++) its[k].last_write = e->number;
+}
+
+/* Neighbours mostly have numbers that follow each other: so an access has runs of these. */
+typedef struct { u32 first, count : 31, is_last : 1; } run;
 static VECTOR(run) runs;
-
-/* how many from the first on follow each other */
-static u32 following(const u32 *numbers, u32 count) {
-    u32 k = 1;
-    while (k < count && numbers[k] == numbers[0] + k) k++;
-    return k;
-}
 
 /* Adds pieces to the runs of an access, which begin at `from`. */
 static void add_to_runs(u64 from, const u32 *numbers, u32 count) {
-    for (u32 length; count; numbers += length, count -= length) {
-        length = following(numbers, count);
-        run *last = runs.count > from ? &runs.at[runs.count - 1] : 0;
-        if (last && last->first + last->count == *numbers) last->count += length;
-        else if (runs.count == MOST_PIECES) die("out of memory");
-        else *PUSH(runs) = (run){.first = *numbers, .count = length};
+    run *last = runs.count > from ? &runs.at[runs.count - 1] : 0;
+    for (u32 k = 0; k < count; k++) {
+        if (last && last->first + last->count == numbers[k]) {
+            last->count++;
+            continue;
+        }
+        if (runs.count == MOST_PIECES) die("out of memory");
+        last = PUSH(runs);
+        *last = (run){.first = numbers[k], .count = 1};
     }
 }
 
-void share_pieces(u64 i) {
-    if (!known[i].accessed) return;
-    if ((is_plain(operation_of(i)) || operation_of(i) == OP_FREE) && is_unseen(caller_of(i))) {
-        known[i].accessed = 0;
-        return;
-    }
-    u64 at = address_of(i), end = end_of(i), from = runs.count;
-    use u = use_of(i);
+/* Those of an access, as known_record has them. */
+static u32 find_pieces(u64 at, u64 end) {
+    const u64 from = runs.count;
     u32 count, *numbers = pieces_at(&at, end, &count);
-    if (count == 1 && at == end) {
-        known[i].accessed = *numbers;
-        share_piece(i, u, *numbers);
-        return;
-    }
-    known[i].accessed = MOST_PIECES + 1 + from;
+    if (count == 1 && at == end) return *numbers;
     add_to_runs(from, numbers, count);
     while (at < end) {
         numbers = pieces_at(&at, end, &count);
         add_to_runs(from, numbers, count);
     }
-    for (const run *r = &runs.at[from]; r < &runs.at[runs.count]; r++)
-        for (u32 k = 0; k < r->count; k++) share_piece(i, u, r->first + k);
     runs.at[runs.count - 1].is_last = 1;
+    return MOST_PIECES + 1 + from;
 }
 
-void share_runs(void) {
-    EACH(r, runs.at, runs.count) {
-        u32 k = 1;
-        while (k < r->count && bundle_of(r->first + k) == bundle_of(r->first)) k++;
-        r->is_bundle = k == r->count;
+static const run *runs_of(u32 found) { return &runs.at[found - MOST_PIECES - 1]; }
+
+void share_pieces(const entry *e) {
+    const int may_be_unseen = is_plain(e->operation) || e->operation == OP_FREE;
+    if (!known[e->number].accessed) return;
+    if (may_be_unseen && is_unseen(e->caller)) {
+        known[e->number].accessed = 0;
+        return;
     }
+    const u64 end = end_of(e), before = range_steps;
+    const use u = use_of(e);
+    recent_access *a = recent_access_of(e->address, end);
+    if (a->found) range_steps += a->steps;
+    else {
+        a->found = find_pieces(e->address, end);
+        a->steps = range_steps - before;
+    }
+    known[e->number].accessed = a->found;
+    if (a->found <= MOST_PIECES) share_run(e, &u, a->found, 1);
+    else for (const run *r = runs_of(a->found); r; r = r->is_last ? 0 : r + 1)
+        share_run(e, &u, r->first, r->count);
 }
 
-piece *only_piece(u64 i) {
-    return known[i].accessed && known[i].accessed <= MOST_PIECES ? piece_of(known[i].accessed) : 0;
+piece *only_piece(const entry *e) {
+    u32 number = known[e->number].accessed;
+    return number && number <= MOST_PIECES ? piece_of(number) : 0;
 }
 
 /* ---- 4: events ---- */
@@ -174,11 +220,9 @@ void begin_visits(void) {
     if (!is_for_page()) visits.count = 0;
 }
 
-static int only_reads(const use *u) { return !u->writes && !u->writes_atomically; }
-
-static void find_own(u64 i, use *u) {
+static void find_own(const entry *e, use *u) {
     if (u->own) return;
-    u->own = own_place(u->thread, caller_of(i));
+    u->own = own_place(u->thread, e->caller);
     u->site = site_of(u->own);
 }
 
@@ -191,7 +235,7 @@ static u64 site_and_thread(const use *u) {
    it orders, the first does too. Behind the variable's last write it conflicts with nothing that comes, so
    locks and orders don't matter. A place is a location: of two reads in one line the second repeats the
    first. */
-static int repeats(u64 i, const use *u, u32 number) {
+static int repeats(const entry *e, const use *u, u32 number) {
     enum { RECENT = 1 << 14 };
     typedef struct { u64 site, epoch, locks; u32 piece, writes; } read;
     static read *recent;
@@ -199,7 +243,7 @@ static int repeats(u64 i, const use *u, u32 number) {
     const thread_state *s = &threads[u->thread];
     const piece *p = piece_of(number);
     read this = {.site = site_and_thread(u), .piece = number, .writes = p->writes};
-    if (i < p->last_write) {
+    if (e->number < p->last_write) {
         this.epoch = s->epoch + 1;
         this.locks = s->locks;
     }
@@ -222,10 +266,10 @@ static void keep_event(read_events *kept, u64 event) {
 /* An event of the variable itself, or of that which stands for its atomic writes by one thread. The page's
    trace lacks those of variables in no race, but each thread's first one. Returns its number in the trace
    that is written, if it isn't known yet whether it stands for others; else 0. */
-static u64 piece_event(u64 i, const use *u, u32 number, const char *operation, u32 writer) {
+static u64 piece_event(const entry *e, const use *u, u32 number, const char *operation, u32 writer) {
     char text[NAME_BYTES + THREAD_BYTES];
     const piece *p = piece_of(number);
-    u64 event_number = 0, caller = caller_of(i);
+    u64 event_number = 0, caller = e->caller;
     int is_kept = takes_piece(number);
     if (!is_kept && has_events(u->thread)) pass_event(u->thread);
     else if (writer == NOBODY) event_number = access_event(u->thread, operation, number, caller, u->own);
@@ -235,7 +279,7 @@ static u64 piece_event(u64 i, const use *u, u32 number, const char *operation, u
         event_number = event(u->thread, operation, (part){text, length}, caller);
     }
     if (is_kept) note_sight(u->thread, u->own, number, writer, *operation == 'w');
-    if (!event_number || !is_repeated(i)) return event_number;
+    if (!event_number || !is_repeated(e)) return event_number;
     note_repeated(event_number);
     return 0;
 }
@@ -252,78 +296,77 @@ static int may_have_events(const use *u, const piece_use *users) {
 /* An atomic write is a read of X, so that it conflicts with plain writes, and a write of a variable of X and
    its thread alone, which the plain reads of others read too: so it conflicts with these, and never with an
    atomic access. */
-static void piece_events(u64 i, const use *u, u32 number, read_events *kept) {
+static void piece_events(const entry *e, const use *u, u32 number, read_events *kept) {
     const piece_use *users = use_of_piece(number);
     piece *p = piece_of(number);
-    if (is_shared(users)) keep_event(kept, piece_event(i, u, number, u->writes ? "w" : "r", NOBODY));
+    if (is_shared(users)) keep_event(kept, piece_event(e, u, number, u->writes ? "w" : "r", NOBODY));
     if (u->writes) p->writes++;
     if (u->writes_atomically && has_others(users->readers, u->thread)) {
-        piece_event(i, u, number, "w", u->thread);
+        piece_event(e, u, number, "w", u->thread);
         p->writes++;
     }
     if (!u->reads) return;
     for (const list_entry *k = entry_of_list(p->atomic_writers); k; k = entry_of_list(k->next))
-        if (k->thread != u->thread) keep_event(kept, piece_event(i, u, number, "r", k->thread));
+        if (k->thread != u->thread) keep_event(kept, piece_event(e, u, number, "r", k->thread));
 }
 
-static char word_of(u64 i, const use *u) {
-    return operation_of(i) == OP_FREE ? 'f' : u->writes ? 'w' : u->writes_atomically ? 'a' : 'r';
+static char word_of(const entry *e, const use *u) {
+    return e->operation == OP_FREE ? 'f' : u->writes ? 'w' : u->writes_atomically ? 'a' : 'r';
 }
 
 /* `before`: so many events were written before those of the access. Of a local only an event has a name; of a
    block any access may tell it. */
-static void note_piece(u64 i, const use *u, u32 number, u64 before) {
+static void note_piece(const entry *e, const use *u, u32 number, u64 before) {
     const piece *p = piece_of(number);
     const block *b = block_of(p->block);
     if (!with_stacks || (written == before && (!b || b->stack))) return;
     note_name(p->at, p->block, before + 1, u->thread);
-    if (operation_of(i) == OP_FREE) return;
+    if (e->operation == OP_FREE) return;
     note_use_of_block(p->at, p->block,
-                      (use_of_block){address_of(i), accessed_bytes(i), caller_of(i), !only_reads(u)});
+                      (use_of_block){e->address, accessed_bytes(e), e->caller, !only_reads(u)});
 }
 
-static void use_piece(u64 i, use *u, u32 number) {
+static void use_piece(const entry *e, use *u, u32 number) {
     u64 before = written;
     int has_events = may_have_events(u, use_of_piece(number));
-    if (has_events) find_own(i, u);
-    if (has_events && only_reads(u) && !whole_trace) has_events = !repeats(i, u, number);
+    if (has_events) find_own(e, u);
+    if (has_events && only_reads(u) && !whole_trace) has_events = !repeats(e, u, number);
     note_visit(has_events);
-    if (has_events) piece_events(i, u, number, 0);
-    note_piece(i, u, number, before);
+    if (has_events) piece_events(e, u, number, 0);
+    note_piece(e, u, number, before);
 }
 
 /* What was omitted in the run's trace isn't in the page's, where the last read of its site stands for it. */
-static void use_on_page(u64 i, use *u, u32 number) {
+static void use_on_page(const entry *e, use *u, u32 number) {
     static INTERNED(read_events) reads;          /* by sites, each with its thread, and pieces */
     u64 before = written;
     int made = next_visit(), is_kept = takes_piece(number);
     read_events *kept = 0;
     if (!made && !is_kept) return;
-    if (is_kept || !has_events(u->thread)) find_own(i, u);
+    if (is_kept || !has_events(u->thread)) find_own(e, u);
     if (is_kept && only_reads(u)) kept = ENTRY(reads, site_and_thread(u), number);
     if (kept && made) *kept = (read_events){0};
-    if (made) piece_events(i, u, number, kept);
+    if (made) piece_events(e, u, number, kept);
     else for (; kept && kept->from < kept->end; kept->from++) note_repeated(kept->from);
     if (!is_kept) return;
-    count_use(u->thread, caller_of(i), u->own, number, word_of(i, u));
-    note_piece(i, u, number, before);
+    count_use(u->thread, e->caller, u->own, number, word_of(e, u));
+    note_piece(e, u, number, before);
 }
 
-static void use_variable(u64 i, use *u, u32 number) {
+static void use_variable(const entry *e, use *u, u32 number) {
     u32 bundle = bundle_of(number);
-    if (bundle) use_bundle(bundle, u->thread, u->writes, caller_of(i));
-    else if (is_for_page()) use_on_page(i, u, number);
-    else use_piece(i, u, number);
+    if (bundle) use_bundle(bundle, u->thread, u->writes, e->caller);
+    else if (is_for_page()) use_on_page(e, u, number);
+    else use_piece(e, u, number);
 }
 
-void access_events(u64 i) {
-    u32 found = known[i].accessed;
+void access_events(const entry *e) {
+    u32 found = known[e->number].accessed;
     if (!found) return;
-    use u = use_of(i);
-    if (found <= MOST_PIECES) use_variable(i, &u, found);
-    else for (const run *r = &runs.at[found - MOST_PIECES - 1];; r++) {
-        const u32 count = r->is_bundle && bundle_of(r->first) ? 1 : r->count;
-        for (u32 k = 0; k < count && !cut_reason; k++) use_variable(i, &u, r->first + k);
-        if (r->is_last) return;
+    use u = use_of(e);
+    if (found <= MOST_PIECES) use_variable(e, &u, found);
+    else for (const run *r = runs_of(found); r; r = r->is_last ? 0 : r + 1) {
+        const u32 count = in_one_bundle(r->first, r->count) ? 1 : r->count;
+        for (u32 k = 0; k < count && !cut_reason; k++) use_variable(e, &u, r->first + k);
     }
 }

@@ -19,12 +19,6 @@
 
 int is_coarse;
 
-/* Of a piece: a sum of which threads used it in which of their regions, the last of these uses, and how many
-   there were; from the end of the third pass on `sum` is the number of its bundle, or 0. */
-typedef struct { u32 sum, last, uses; } history;
-static VECTOR(history) histories;
-enum { WRITES = 1, APART = -1 };       /* in `last`: beside twice the region's number; in place of it */
-
 typedef struct {
     u32 piece;                         /* its first one */
     u32 phase, writer;                 /* its phase now; who writes in it, plus one, or 0 */
@@ -40,25 +34,21 @@ typedef struct { u64 own; u32 bundle, thread, phase, next; int is_pending; } use
 static INTERNED(user) users;
 
 /* ---- 3: which pieces are used alike ---- */
-static history *history_of(u32 number) {
-    while (histories.count < number) *PUSH(histories) = (history){0};
-    return &histories.at[number - 1];
-}
+enum { WRITES = 1 };                   /* in `last` of a piece: beside twice the region's number */
 
-void note_history(u32 number, u32 t, int writes) {
+u32 use_in_region(u32 t, int writes) {
     static u32 regions;
     thread_state *s = &threads[t];
-    history *h = history_of(number);
     if (!s->region) s->region = ++regions;
-    u32 now = s->region * 2 + writes;
-    const int is_same = (h->last | WRITES) == (now | WRITES);
-    h->uses++;
-    if (h->last == (u32)APART || (is_same && h->last >= now)) return;
-    h->sum = mix(h->sum, now);
-    h->last = now;
+    return s->region * 2 + (writes ? WRITES : 0);
 }
 
-void stand_apart(u32 number) { history_of(number)->last = APART; }
+void note_history(piece_use *p, u32 in_region) {
+    const int is_same = (p->last | WRITES) == (in_region | WRITES);
+    if (p->last == APART || (is_same && p->last >= in_region)) return;
+    p->sum = mix(p->sum, in_region);
+    p->last = in_region;
+}
 
 /* The bundle of a piece with this sum; 0: it is the first one. Pieces that are used alike are mostly met one
    after the other, so a table of recent ones finds them. */
@@ -71,7 +61,7 @@ static u32 join_bundle(u32 number, u32 sum) {
     if (!k->piece || k->block != block || k->sum != sum) *k = (kind){block, sum, number, 0};
     else if (!k->bundle) {
         *PUSH(bundles) = (bundle){.piece = k->piece};
-        k->bundle = histories.at[k->piece - 1].sum = bundles.count;
+        k->bundle = use_of_piece(k->piece)->sum = bundles.count;
     }
     return k->bundle;
 }
@@ -79,16 +69,19 @@ static u32 join_bundle(u32 number, u32 sum) {
 /* Only if they have most of the uses: else a coarse trace would hardly be shorter. */
 int form_bundles(void) {
     u64 uses = 0, of_bundles = 0;
-    for (u32 number = 1; number <= histories.count; number++) {
-        history *h = &histories.at[number - 1];
-        const piece_use *u = use_of_piece(number);
+    for (u32 number = 1; number <= piece_count(); number++) {
+        piece_use *u = use_of_piece(number);
         const int is_in_trace = u->users.many && u->written;
-        h->sum = is_in_trace && h->last != (u32)APART ? join_bundle(number, h->sum) : 0;
-        uses += is_in_trace ? h->uses : 0;
+        u->sum = is_in_trace && u->last != APART ? join_bundle(number, u->sum) : 0;
+        uses += is_in_trace ? u->uses : 0;
     }
-    EACH(h, histories.at, histories.count) of_bundles += h->sum ? h->uses : 0;
-    if (of_bundles < uses / 2) histories.count = bundles.count = 0;
-    share_runs();
+    for (u32 number = piece_count(), behind = 0; number; number--) {
+        piece_use *u = use_of_piece(number);
+        of_bundles += u->sum ? u->uses : 0;
+        u->last = behind && u[1].sum == u->sum ? behind + 1 : 1;
+        behind = u->last;
+    }
+    if (of_bundles < uses / 2) bundles.count = 0;
     return bundles.count != 0;
 }
 
@@ -104,9 +97,11 @@ void forget_phases(void) {
 }
 
 u32 bundle_of(u32 number) {
-    u32 found = is_coarse && number <= histories.count ? histories.at[number - 1].sum : 0;
+    u32 found = is_coarse ? use_of_piece(number)->sum : 0;
     return found && !bundles.at[found - 1].is_apart ? found : 0;
 }
+
+int in_one_bundle(u32 first, u32 count) { return use_of_piece(first)->last >= count && bundle_of(first); }
 
 static void write_use(const user *u) {
     const bundle *b = &bundles.at[u->bundle - 1];

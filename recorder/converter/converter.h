@@ -25,58 +25,57 @@ typedef struct { const char *at; u64 length; } part;         /* of a text, witho
 #endif
 
 /* records.c: the record. */
+/* A record as a pass meets it. */
+typedef struct {
+    const struct record *its;          /* in the file: an entry or two */
+    u64 number;                        /* in the order of the passes */
+    u64 address, caller;
+    u32 thread;
+    enum operation operation;
+    int is_late;
+} entry;
 extern u64 entry_count;                /* of the file */
 extern u64 record_count;               /* the passes may make it less */
 extern const char *recording_cut;      /* why the record is not that of the whole run; or null */
 void open_record(const char *path);    /* dies where it is damaged, or a copy that was cut or changed */
 void is_damaged(const char *how) __attribute__((noreturn));
-extern u64 carried_count;              /* how many of them are of blocks that were there before */
 /* of the record's segment before: the file's records come before all others */
 void carry_blocks(const char *path);
 u32 threads_met(void);                 /* after the first pass */
-void begin_records(void);              /* each pass */
-extern u64 records_end;                /* the records before it can be asked for, from the end before on */
-void next_records(void);
-void forget_before(u64 i);             /* the entries of the file */
-enum operation operation_of(u64 i);
-u64 address_of(u64 i), caller_of(u64 i), size_of(u64 i);
-/* of an access that is late: in which context it was made, plus one; else 0 */
-u64 late_context(u64 i);
-int is_repeated(u64 i);                /* is it late, and stands for earlier ones? */
-void name_piece(u64 i, char *piece);   /* of a record OP_NAME: NAME_PIECE bytes and an end */
-u64 depth_inside(u64 i);               /* MOST_FRAMES where it is told by records before */
+/* each pass calls it for the first record, and for that which it returned, before it asks for them */
+u64 next_records(u64 i);
+entry entry_at(u64 i);
+u64 size_of(const entry *e);
+/* of an access that is late: in which context it was made; does it stand for earlier ones? */
+static inline u64 late_context(const entry *e) { return e->its[-1].what % IS_REPEATED; }
+static inline int is_repeated(const entry *e) { return e->is_late && e->its[-1].where & IS_REPEATED; }
+void forget_before(u64 i);           /* the entries of the file */
+u64 depth_inside(const entry *e);      /* MOST_FRAMES where it is told by records before */
 void begin_thread_pass(void);
 /* each pass calls these for each fork and begin; 0 where there are too many threads */
-int meet_fork(u64 i);
-void meet_start(u64 i);
+int meet_fork(const entry *e);
+void meet_start(const entry *e);
 u32 thread_bound(void);                /* all threads are below it */
 u32 next_thread(u32 t);                /* the one after it, of those that there may be */
-u32 thread_of(u64 i);
-u32 other_thread_of(u64 i);            /* of a fork or join */
+u32 other_thread_of(const entry *e);   /* of a fork or join */
 static inline int is_plain(enum operation operation) { return operation == OP_READ || operation == OP_WRITE; }
 static inline int is_atomic(enum operation operation) {
     return operation >= OP_ATOMIC_LOAD && operation <= OP_ATOMIC_UPDATE;
 }
-static inline int is_for_object(enum operation operation) {
-    return is_atomic(operation) || (operation >= OP_LOCK_INIT && operation < OP_USE);
-}
-int acquires(u64 i), releases(u64 i);  /* of an atomic access or a fence */
-u64 accessed_bytes(u64 i);
+int acquires(const entry *e), releases(const entry *e);      /* of an atomic access or a fence */
+u64 accessed_bytes(const entry *e);
 
 /* late.c: the entries of a record with each access in its place that is late. */
 static inline enum operation operation_in(struct record r) { return r.what >> 48 & 63; }
 static inline int is_late(struct record r) { return operation_in(r) == OP_LATE; }
 static inline int is_of_two(struct record r) { return is_late(r) || r.what >> 54 == SIZE_FOLLOWS; }
 int is_good_late(u64 position, struct record access, u64 i); /* of an entry OP_LATE, and the one after it */
-/* of each entry OP_LATE, before these are found */
-void count_late(u64 position, u64 most_entries);
-/* returns how many entries there are with these in place */
-u64 find_late(const struct record *of_record, u64 record_entries);
-/* What comes next in a pass: a run of entries as they stand in the record, at most so many or one more, with
-   0; or an access that is late, with its context, plus one, and IS_REPEATED. */
-typedef struct { const struct record *first; u64 count, context; } some_records;
-void begin_entries(void);              /* each pass */
-some_records next_entries(u64 most);
+/* of each entry OP_LATE, before the order is asked for */
+void note_late(u64 i, u64 position, u64 most_entries);
+/* Writes the numbers of all entries but these in the order of what happened, with IS_LATE those of accesses
+   that are late, and returns how many they are. */
+#define IS_LATE (1u << 31)
+u64 put_in_order(const struct record *entries, u64 count, u32 *order);
 
 /* sources.c: the source files of modules, and how they are named. */
 void strip_folder(const char *folder); /* names of files below it are paths from it */
@@ -152,6 +151,7 @@ typedef struct {
     u64 at, size, caller;
     u32 thread, node;                  /* node: of the file of stacks, where it was allocated; or 0 */
     some_threads users;
+    u64 shared_at;                     /* the record from which on it has several users */
     uint8_t stack, named, freed;
 } block;
 typedef struct {
@@ -164,49 +164,60 @@ typedef struct {
     u32 object;
 } piece;
 /* Who uses a piece, reads it plainly and writes it, plainly or atomically. It stands apart, for most accesses
-   ask no more, and of several neighbours. */
-typedef struct { some_threads users, readers, writers; uint8_t written, written_atomically; } piece_use;
+   ask no more, and of several neighbours.
+   sum: of which threads used it in which of their regions; from the end of the third pass on the number of
+   its bundle, or 0. last: the last of these uses, or APART: it is in no bundle; later how many pieces from it
+   on have one bundle. uses: how many there were. */
+typedef struct {
+    some_threads users, readers, writers;
+    u32 sum, last, uses;
+    uint8_t written, written_atomically;
+} piece_use;
+#define APART (-1u)
 enum { MOST_PIECES = (1u << 30) - 1 }; /* in accesses.c numbers of runs stand behind theirs */
+extern u64 memory_state;               /* it grows with each new block, and each pass */
 extern u64 range_steps;                /* in this pass: pages and pieces after the first of each range */
 void begin_memory_pass(void);
 /* it, or null; each pass calls it for each OP_ALLOC and OP_START: the newest block holds its addresses */
-block *meet_block(u64 i);
+block *meet_block(const entry *e);
 block *block_at(u64 address);          /* or null */
+u32 number_at(u64 address);            /* of this block, or 0 */
 void end_block(u64 address);           /* it is freed */
 void write_blocks(const char *path);   /* those that are there, for carry_blocks */
 u32 block_count(void);
 u32 block_number(const block *b);      /* from 1; of null 0 */
 block *block_of(u32 number);
-void cut(u64 address);
+void cut(u64 first, u64 second);
 u64 next_cut(u64 from, u64 end);       /* the first cut after `from`, or the end */
-int in_one_grain(u64 address, u64 end);                      /* then it lies in one block */
+u64 end_of_same(u64 from, u64 end);    /* up to there memory is of one block, or of none */
 /* The numbers, from 1, of the pieces that begin from a cut on before `end`, but at most those in the cut's
    stretch of 64 bytes; with how many they are, and the next cut, or `end`. In the third pass; makes them. */
 u32 *pieces_at(u64 *cut, u64 end, u32 *count);
+u32 piece_count(void);
 piece *piece_of(u32 number);
 piece_use *use_of_piece(u32 number);
 
 /* stacks.c: call stacks, in a file beside the trace. */
 extern int with_stacks;                /* has the trace that is written a file of stacks? */
 void open_stacks(const char *path);
-void note_call(u64 i);                 /* each record of calls, in the first pass */
-void meet_call(u64 i);                 /* each record of the fourth pass, before its events */
+void note_call(const entry *e);        /* each record of calls, in the first pass */
+void meet_call(const entry *e);        /* each record of the fourth pass, before its events */
 void begin_calls(int has_stacks);      /* each pass that meets them */
 /* of the context that a record tells: the outermost function that is the program's own, or 0 */
-u64 own_function(u64 i);
+u64 own_function(const entry *e);
 /* of what a thread does now: the innermost place in the program's own code, or the caller */
 u64 own_place(u32 t, u64 caller);
 u32 stack_at(u32 t, u64 caller);
 void stack_of_event(u32 number);       /* of the event that comes next */
 void keep_stack(u32 number);           /* it is written, though no event has it */
-void note_crash(u64 i);                /* a record OP_CRASH */
+void note_crash(const entry *e);       /* a record OP_CRASH */
 void say_crash(void);                  /* at the end */
 void note_free(u64 first, u64 last);   /* the events of one call that frees a block */
 /* of a piece or an object: this event of a thread is of it */
 void note_name(u64 at, u32 block, u64 event, u32 t);
 /* of an atomic that several threads use: what stores, and a thread's first load of another's store */
-void note_use(u64 i, u64 object, int gives);
-void note_fence(u64 i);                /* with acquire */
+void note_use(const entry *e, u64 object, int gives);
+void note_fence(const entry *e);       /* with acquire */
 void end_stacks(void);                 /* of each trace */
 
 u64 allocated_by(u32 block_number);    /* what called for it, or 0 */
@@ -250,37 +261,38 @@ void end_uses(void);                   /* of each trace */
 /* accesses.c, objects.c: what the passes do with a record. */
 extern int whole_trace;                /* also what cannot conflict */
 /* that a record accesses, from the third pass on; null of several, or none */
-piece *only_piece(u64 i);
-void find_users(u64 i);
+piece *only_piece(const entry *e);
+void find_users(const entry *e);
 int is_passed_over(u64 i);             /* from the second pass on: no pass needs the record */
-int means_access(u64 i);               /* does a record mean more than its context? */
-void find_cuts(u64 i);
-void share_pieces(u64 i);
-void share_runs(void);                 /* at its end: which runs of pieces are of one bundle */
-void share_object(u64 i);
+int means_access(const entry *e);      /* does a record mean more than its context? */
+void find_earlier_cuts(void);
+void share_pieces(const entry *e);
+void share_object(const entry *e);
 /* behind each of the passes that share objects and write events, but those of calls */
-void note_record(u64 i);
+void note_record(const entry *e);
 extern int has_fences;                 /* known before the third pass */
-void share_fence(u64 i);
+void share_fence(const entry *e);
 void forget_states(void);              /* of objects, between the passes */
 void begin_visits(void);               /* of each trace */
 void write_holds(u32 t);               /* acquires of what it holds that aren't in the trace */
 typedef void (*held_lock)(const char *operation, u32 t, const hold *h);
 /* those whose acquires are in the trace, the oldest first */
 void each_held(held_lock give, const char *operation);
-void access_events(u64 i);
-void object_events(u64 i);
-void fence_events(u64 i);
+void access_events(const entry *e);
+void object_events(const entry *e);
+void fence_events(const entry *e);
 
 /* bundles.c: pieces that are one variable in a coarse trace of the run. */
 extern int is_coarse;                  /* the run's trace has bundles, or may have some */
-/* in the third pass: a plain access of a piece; another one, so that it is in no bundle */
-void note_history(u32 number, u32 t, int writes);
-void stand_apart(u32 number);
+/* in the third pass: what stands for a plain access in a thread's region, and that it is the last of a
+   piece */
+u32 use_in_region(u32 t, int writes);
+void note_history(piece_use *p, u32 in_region);
 int form_bundles(void);                /* at its end; are there some? */
 void end_region(u32 t);                /* in that pass and later ones: before what could give or take order */
 void forget_phases(void);              /* before each trace */
 u32 bundle_of(u32 number);             /* of a piece, or 0 */
+int in_one_bundle(u32 first, u32 count);                     /* are neighbours? */
 void use_bundle(u32 number, u32 t, int writes, u64 caller);
 void refine(const map *names);         /* the pieces of bundles with these names are apart */
 
@@ -297,7 +309,7 @@ extern const char *cut_reason;         /* null while the trace goes on */
 void begin_events(void);               /* each pass that writes a trace */
 void name_thread(u32 t, u64 function); /* by the function that it runs, where it has no name yet */
 /* the same, by the functions that a record tells, if one is the program's own */
-void name_by_own(u32 t, u64 i);
+void name_by_own(u32 t, const entry *e);
 /* a piece of one that the program gave; the main thread keeps its own */
 void give_name(u32 t, const char *piece, int is_first);
 const char *thread_name(u32 t);        /* with an end */

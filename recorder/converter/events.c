@@ -36,9 +36,9 @@ void name_thread(u32 t, u64 function) {
     set_name(t, name);
 }
 
-void name_by_own(u32 t, u64 i) {
+void name_by_own(u32 t, const entry *e) {
     char name[FUNCTION_BYTES];
-    u64 function = t && !threads[t].is_named ? own_function(i) : 0;
+    u64 function = t && !threads[t].is_named ? own_function(e) : 0;
     if (function && own_function_name(function, name, sizeof name)) set_name(t, name);
 }
 
@@ -65,46 +65,21 @@ int meets_thread(u32 t) {
     return thread_count <= most.threads;
 }
 
-/* ---- texts: each adds to what is written before `to`, and gives where the next may stand ---- */
-static inline char *add(char *to, part text) { return mempcpy(to, text.at, text.length); }
-
-static inline char *add_text(char *to, const char *text) {
-    while (*text) *to++ = *text++;
-    return to;
-}
-
-static inline char *add_number(char *to, u64 number, u64 base) {
-    char digits[24], *end = digits + sizeof digits, *at = end;
-    do *--at = "0123456789abcdef"[number % base];
-    while (number /= base);
-    return add(to, (part){at, end - at});
-}
-
 /* ---- names of variables ---- */
-static char *add_block(char *to, const block *b) {           /* "file.c:12#3" */
+/* "file.c:12#3+8", or "stack.T1-0x20" */
+static int write_block_name(char *to, u64 address, const block *b) {
+    if (b->stack) return sprintf(to, "stack.%s-0x%lx", thread_name(b->thread), b->at + b->size - address);
+    part place = place_of(b->caller);
     block_of(block_number(b))->named = 1;
-    to = add(to, place_of(b->caller));
-    *to++ = '#';
-    return add_number(to, block_number(b), 10);
+    int length = sprintf(to, "%.*s#%u", (int)place.length, place.at, block_number(b));
+    return address == b->at ? length : length + sprintf(to + length, "+%lu", address - b->at);
 }
 
-static char *add_block_name(char *to, u64 address, const block *b) {
-    if (b->stack) {
-        to = add(add_text(to, "stack."), name_of_thread(b->thread));
-        return add_number(add_text(to, "-0x"), b->at + b->size - address, 16);
-    }
-    to = add_block(to, b);
-    if (address == b->at) return to;
-    *to++ = '+';
-    return add_number(to, address - b->at, 10);
-}
-
-static char *add_descriptor_name(char *to, u64 address) {
+static int write_descriptor_name(char *to, u64 address) {
     static const char *const kinds[] = {"fd", "semaphores", "queue", "mqueue"};
     u64 place = address - FIRST_DESCRIPTOR;
-    to = add_number(add_text(to, kinds[place >> KIND_OF_OBJECT & 3]), place % (1ull << KIND_OF_OBJECT) / 16,
-                    10);
-    return add_text(to, address & 8 ? ".data" : "");
+    return sprintf(to, "%s%llu%s", kinds[place >> KIND_OF_OBJECT & 3], place % (1ull << KIND_OF_OBJECT) / 16,
+                   address & 8 ? ".data" : "");
 }
 
 /* Debug information is searched for each once, while they are no more than this. */
@@ -124,8 +99,7 @@ static part symbol_of(u64 address) {
 part variable_name(u64 address, const block *b) {
     static char name[NAME_BYTES];
     if (!b && address < FIRST_DESCRIPTOR) return symbol_of(address);
-    char *end = b ? add_block_name(name, address, b) : add_descriptor_name(name, address);
-    return (part){name, end - name};
+    return (part){name, b ? write_block_name(name, address, b) : write_descriptor_name(name, address)};
 }
 
 /* The name of a piece, with WIDE bytes that may be read. Short ones are mostly found in a table of
@@ -168,7 +142,7 @@ static inline char *add_wide(char *to, part text) {
 static inline char *add_line(char *to, part thread, const char *operation, part name, part line_end) {
     to = add_wide(to, thread);
     *to++ = '|';
-    to = add_text(to, operation);
+    while (*operation) *to++ = *operation++;
     *to++ = '(';
     to = add_wide(to, name);
     to = add_wide(to, line_end);

@@ -1,9 +1,9 @@
-/* shb-std: turns a record of the recorder into an STD trace.
+/* shb-std: turns a record of the recorder into an STD trace; docs/RECORDER.md says what becomes what.
 
-   Passes over the record.  The first meets the blocks of memory and finds those that one thread alone uses;
-   the second cuts what is left into pieces; the third finds which pieces and objects are shared, and who
-   reads what; the fourth writes the events.  With --only and races in its file another one writes those that
-   a page of these needs, and counts.  README.md has the table of what becomes what. */
+   Passes over the record.  The first meets the blocks of memory, finds those that one thread alone uses, and
+   cuts the others into pieces; the second cuts by what came before another thread used a block; the third
+   finds which pieces and objects are shared, and who reads what; the fourth writes the events.  With --only
+   and races in its file another one writes those that a page of these needs, and counts. */
 #define _GNU_SOURCE
 #include <errno.h>
 #include <fcntl.h>
@@ -17,42 +17,44 @@
 #define MAX_RANGE_STEPS (1ull << 28)   /* in a pass: seconds */
 
 static int is_of_stack(enum operation operation) { return operation >= OP_FRAME && operation <= OP_CONTEXT; }
-
-static void meet_record(u64 i) {
-    enum operation operation = operation_of(i);
-    find_users(i);
-    if (is_plain(operation)) return;
-    if (operation == OP_FREE) end_block(address_of(i));
-    if (is_of_stack(operation)) note_call(i);
-    if (operation == OP_NAME || is_of_stack(operation)) return;
-    if (operation == OP_FENCE) has_fences = 1;
-    note_caller(caller_of(i));
+static int is_for_object(enum operation operation) {
+    return is_atomic(operation) || (operation >= OP_LOCK_INIT && operation < OP_USE);
 }
 
-static void meet_name(u64 i) {
+static void meet_record(const entry *e) {
+    find_users(e);
+    if (is_plain(e->operation)) return;
+    if (e->operation == OP_FREE) end_block(e->address);
+    if (is_of_stack(e->operation)) note_call(e);
+    if (e->operation == OP_NAME || is_of_stack(e->operation)) return;
+    if (e->operation == OP_FENCE) has_fences = 1;
+    note_caller(e->caller);
+}
+
+static void meet_name(const entry *e) {
     char piece[NAME_PIECE + 1];
-    name_piece(i, piece);
-    give_name(thread_of(i), piece, size_of(i) == 0);
+    piece_of_name(*e->its, piece);
+    give_name(e->thread, piece, size_of(e) == 0);
 }
 
 /* Of who could give or take order by a record. */
-static void end_regions(u64 i) {
-    enum operation operation = operation_of(i);
-    int is_of_two = operation == OP_FORK || operation == OP_JOIN;
-    if (is_of_two || operation == OP_FENCE || is_for_object(operation)) end_region(thread_of(i));
-    if (is_of_two) end_region(other_thread_of(i));
+static void end_regions(const entry *e) {
+    int is_of_two = e->operation == OP_FORK || e->operation == OP_JOIN;
+    if (is_of_two || e->operation == OP_FENCE || is_for_object(e->operation)) end_region(e->thread);
+    if (is_of_two) end_region(other_thread_of(e));
 }
 
-static void find_sharing(u64 i) {
-    if (operation_of(i) == OP_NAME) meet_name(i);
-    if (operation_of(i) == OP_START) name_thread(thread_of(i), caller_of(i));
-    if (operation_of(i) == OP_FRAME || operation_of(i) == OP_CONTEXT || late_context(i))
-        name_by_own(thread_of(i), i);
-    share_pieces(i);
-    end_regions(i);
-    if (operation_of(i) == OP_FENCE) share_fence(i);
-    if (is_for_object(operation_of(i))) share_object(i);
-    if (!is_of_stack(operation_of(i)) && means_access(i)) note_record(i);
+static void find_sharing(const entry *e) {
+    if (e->operation == OP_FRAME || e->operation == OP_CONTEXT || e->is_late) name_by_own(e->thread, e);
+    share_pieces(e);
+    if (!is_plain(e->operation)) {
+        if (e->operation == OP_NAME) meet_name(e);
+        if (e->operation == OP_START) name_thread(e->thread, e->caller);
+        end_regions(e);
+        if (e->operation == OP_FENCE) share_fence(e);
+        if (is_for_object(e->operation)) share_object(e);
+    }
+    if (!is_of_stack(e->operation) && means_access(e)) note_record(e);
 }
 
 static void write_fork(u32 t, u32 child, u64 caller) {
@@ -73,27 +75,27 @@ static void write_join(u32 t, u32 child, u64 caller) {
     event(t, "join", name_of_thread(child), caller);
 }
 
-static void write_events(u64 i) {
-    enum operation operation = operation_of(i);
-    meet_call(i);
-    if (is_of_stack(operation)) return;
-    end_regions(i);
-    if (operation == OP_FORK) write_fork(thread_of(i), other_thread_of(i), caller_of(i));
-    else if (operation == OP_JOIN) write_join(thread_of(i), other_thread_of(i), caller_of(i));
-    else if (operation == OP_FENCE) fence_events(i);
-    else if (operation == OP_CRASH) note_crash(i);
-    else if (is_for_object(operation)) object_events(i);
+static void write_events(const entry *e) {
+    meet_call(e);
+    if (is_of_stack(e->operation)) return;
+    if (!is_plain(e->operation)) end_regions(e);
+    if (is_plain(e->operation)) access_events(e);
+    else if (e->operation == OP_FORK) write_fork(e->thread, other_thread_of(e), e->caller);
+    else if (e->operation == OP_JOIN) write_join(e->thread, other_thread_of(e), e->caller);
+    else if (e->operation == OP_FENCE) fence_events(e);
+    else if (e->operation == OP_CRASH) note_crash(e);
+    else if (is_for_object(e->operation)) object_events(e);
     else {
         u64 before = written;
-        access_events(i);
-        if (operation == OP_FREE) note_free(before + 1, written);
+        access_events(e);
+        if (e->operation == OP_FREE) note_free(before + 1, written);
     }
-    if (means_access(i)) note_record(i);
+    if (means_access(e)) note_record(e);
 }
 
-static void name_block(block *b, u64 i) {
-    b->node = stack_at(thread_of(i), caller_of(i));
-    b->caller = own_place(thread_of(i), caller_of(i));
+static void name_block(block *b, const entry *e) {
+    b->node = stack_at(e->thread, e->caller);
+    b->caller = own_place(e->thread, e->caller);
 }
 
 /* A record of ranges so long and so many that no pass would end soon is cut, or of so many threads: its
@@ -103,28 +105,27 @@ static u32 record_threads;
 
 /* One step with each record that is of use. Inline, for a step that is called by its address costs more than
    most do. */
-static inline __attribute__((always_inline)) void pass(void (*step)(u64), int is_first) {
+static inline __attribute__((always_inline)) void pass(void (*step)(const entry *), int is_first) {
     begin_memory_pass();
     begin_thread_pass();
-    begin_records();
-    for (u64 i = 0; i < record_count && !cut_reason; i++) {
-        if (i == records_end) next_records();
+    for (u64 i = 0, end = 0; i < record_count && !cut_reason; i++) {
+        if (i == end) end = next_records(i);
         if (!is_first && is_passed_over(i)) continue;
-        if (step == find_cuts) {       /* it needs no more */
-            find_cuts(i);
-            continue;
+        const entry e = entry_at(i);
+        const enum operation operation = e.operation;
+        block *b = 0;
+        if (!is_plain(operation)) {
+            if (operation == OP_SIZE) continue;
+            if (operation == OP_FORK && !meet_fork(&e)) {
+                shortened = "before a thread too many: shb-std takes 1,048,576";
+                record_count = i;
+                break;
+            }
+            if (operation == OP_START) meet_start(&e);
+            if (operation == OP_START || operation == OP_ALLOC) b = meet_block(&e);
         }
-        enum operation operation = operation_of(i);
-        if (operation == OP_SIZE) continue;
-        if (operation == OP_FORK && !meet_fork(i)) {
-            shortened = "before a thread too many: shb-std takes 1,048,576";
-            record_count = i;
-            break;
-        }
-        if (operation == OP_START) meet_start(i);
-        block *b = operation == OP_ALLOC || operation == OP_START ? meet_block(i) : 0;
-        step(i);
-        if (b && step == write_events && operation == OP_ALLOC) name_block(b, i);
+        step(&e);
+        if (b && step == write_events && operation == OP_ALLOC) name_block(b, &e);
         if (range_steps <= MAX_RANGE_STEPS) continue;
         shortened = "where its accesses of long ranges take too much work";
         record_count = i;
@@ -278,7 +279,7 @@ int main(int count, char **words) {
     if (paths[STACKS]) open_stacks(paths[STACKS]);
     pass(meet_record, 1);
     record_threads = threads_met();
-    pass(find_cuts, 0);
+    find_earlier_cuts();
     find_places();
     pass(find_sharing, 0);
     is_coarse = is_coarse && form_bundles();

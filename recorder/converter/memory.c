@@ -23,7 +23,7 @@ typedef struct {
     u32 *slots;
 } page;
 
-u64 range_steps;
+u64 memory_state, range_steps;
 static VECTOR(block) blocks;
 static u64 met;                        /* how many blocks in this pass */
 static VECTOR(piece) pieces;
@@ -31,22 +31,21 @@ static VECTOR(piece_use) piece_uses;
 static INTERNED(page) pages;
 
 enum { RECENT = 4096 };
-/* pages that were asked for, by the ends of their numbers */
-static struct { u64 number; u32 found; } recent[RECENT];
+/* pages that were asked for, by the ends of their numbers; behind: the number plus one */
+static struct { u64 behind; u32 found; } recent[RECENT];
 
 static RARE page *find_page(u64 number, int make) {
     u32 found = make ? INTERN(pages, number, 0) : map_find(&pages.numbers, number, 0);
     if (!found) return 0;
     if (found > MAX_PAGES) die("the program used more than 64 GB of memory, or the record is damaged");
-    recent[number & (RECENT - 1)].number = number;
+    recent[number & (RECENT - 1)].behind = number + 1;
     recent[number & (RECENT - 1)].found = found;
     return &pages.at[found - 1];
 }
 
 static inline page *page_of(u64 address, int make) {
     u64 number = address / PAGE, at = number & (RECENT - 1);
-    int is_recent = recent[at].number == number && recent[at].found;
-    return is_recent ? &pages.at[recent[at].found - 1] : find_page(number, make);
+    return recent[at].behind == number + 1 ? &pages.at[recent[at].found - 1] : find_page(number, make);
 }
 
 /* The slot of the first cut at this byte of the page or behind it. */
@@ -84,13 +83,14 @@ static void allot(u64 from, u64 end, u32 number) {
     }
 }
 
-block *block_at(u64 address) {
-    page *p = page_of(address, 0);
+u32 number_at(u64 address) {
+    const page *p = page_of(address, 0);
     if (!p) return 0;
     u32 grain = p->grains ? p->grains[address % PAGE / GRAIN] : 0;
-    u32 newest = grain > p->whole ? grain : p->whole;
-    return newest ? &blocks.at[newest - 1] : 0;
+    return grain > p->whole ? grain : p->whole;
 }
+
+block *block_at(u64 address) { return block_of(number_at(address)); }
 
 void end_block(u64 address) {
     block *b = block_at(address);
@@ -108,38 +108,53 @@ void write_blocks(const char *path) {
     if (!file || fflush(file) || ferror(file) || fclose(file)) cannot_write(path);
 }
 
-int in_one_grain(u64 address, u64 end) { return address / GRAIN == (end - 1) / GRAIN; }
+u64 end_of_same(u64 from, u64 end) {
+    if (end <= (from / GRAIN + 1) * GRAIN) return end;       /* most */
+    const page *p = page_of(from, 0);
+    u64 page_end = (from / PAGE + 1) * PAGE, stop = end < page_end ? end : page_end;
+    u64 at = p && p->grains ? (from / GRAIN + 1) * GRAIN : stop;
+    while (at < stop && p->grains[at % PAGE / GRAIN] == p->grains[from % PAGE / GRAIN]) at += GRAIN;
+    range_steps += at < end;
+    return at < stop ? at : stop;
+}
+
 u32 block_count(void) { return blocks.count; }
 u32 block_number(const block *b) { return b ? b - blocks.at + 1 : 0; }
 block *block_of(u32 number) { return number ? &blocks.at[number - 1] : 0; }
 
 void begin_memory_pass(void) {
     met = range_steps = 0;
+    memory_state++;
     EACH(p, pages.at, pages.numbers.count) {
         p->whole = 0;
         if (p->grains) memset(p->grains, 0, PAGE / GRAIN * sizeof *p->grains);
     }
 }
 
-block *meet_block(u64 i) {
-    u64 size = size_of(i), from = address_of(i) & ~(GRAIN - 1ull);
-    u64 end = (address_of(i) + size + GRAIN - 1) & ~(GRAIN - 1ull);
+block *meet_block(const entry *e) {
+    u64 size = size_of(e), from = e->address & ~(GRAIN - 1ull);
+    u64 end = (e->address + size + GRAIN - 1) & ~(GRAIN - 1ull);
     if (!size || size >= MAX_BLOCK) return 0;
     if (++met > blocks.count) {        /* in the first pass */
-        const int is_stack = operation_of(i) == OP_START;
-        *PUSH(blocks) = (block){address_of(i), size, caller_of(i), .stack = is_stack,
-                                .users.many = whole_trace, .thread = thread_of(i)};
-        cut(from);
-        cut(end);
+        const int is_stack = e->operation == OP_START;
+        *PUSH(blocks) = (block){e->address, size, e->caller, .stack = is_stack,
+                                .users.many = whole_trace, .thread = e->thread};
+        cut(from, end);
     }
     allot(from, end, met);
+    memory_state++;
     return &blocks.at[met - 1];
 }
 
-void cut(u64 address) {
-    page *p = page_of(address, 1);
+static inline void cut_page(page *p, u64 byte) {
     if (!p->stretches) p->stretches = zeroed(PAGE / 64, sizeof *p->stretches);
-    p->stretches[address % PAGE / 64].cuts |= 1ull << address % 64;
+    p->stretches[byte / 64].cuts |= 1ull << byte % 64;
+}
+
+void cut(u64 first, u64 second) {
+    page *p = page_of(first, 1);
+    cut_page(p, first % PAGE);
+    cut_page(first / PAGE == second / PAGE ? p : page_of(second, 1), second % PAGE);
 }
 
 RARE u64 next_cut(u64 from, u64 end) {
@@ -164,21 +179,25 @@ RARE u64 next_cut(u64 from, u64 end) {
 
 /* The new pieces that begin at the cuts from `from` on, by their slots. */
 static RARE void make_pieces(u64 from, u64 cuts, u32 *slots) {
+    u64 grain = 0;
+    u32 number = 0;
     for (; cuts; cuts &= cuts - 1, slots++) {
         if (*slots) continue;
         u64 at = from + __builtin_ctzll(cuts);
+        if (at / GRAIN != grain) number = number_at(at);
+        grain = at / GRAIN;
         if (pieces.count == MOST_PIECES)
             die("the record has more variables than shb-std takes (%d)", MOST_PIECES);
         *PUSH(piece_uses) = (piece_use){0};
-        *PUSH(pieces) = (piece){.at = at, .block = block_number(block_at(at))};
+        *PUSH(pieces) = (piece){.at = at, .block = number};
         *slots = pieces.count;
     }
 }
 
 static int has_empty(const u32 *slots, u32 count) {
-    int some = 0;
-    for (u32 k = 0; k < count; k++) some |= !slots[k];
-    return some;
+    u32 k = 0;
+    while (k < count && slots[k]) k++;
+    return k < count;
 }
 
 u32 *pieces_at(u64 *cut, u64 end, u32 *count) {
@@ -190,10 +209,11 @@ u32 *pieces_at(u64 *cut, u64 end, u32 *count) {
     u32 *slots = slot_of(p, from % PAGE);
     *count = __builtin_popcountll(cuts);
     range_steps += *count - 1;
-    if (*count == 1 ? !*slots : has_empty(slots, *count)) make_pieces(from, cuts, slots);
+    if (has_empty(slots, *count)) make_pieces(from, cuts, slots);
     *cut = end <= stop ? end : next_cut(from + 63 - __builtin_clzll(cuts), end);
     return slots;
 }
 
+u32 piece_count(void) { return pieces.count; }
 piece *piece_of(u32 number) { return &pieces.at[number - 1]; }
 piece_use *use_of_piece(u32 number) { return &piece_uses.at[number - 1]; }

@@ -142,13 +142,11 @@ static char *shortened(char *name) {
     return name;
 }
 
-static char *short_name(const symbol *s) { return shortened(copied(s->name)); }
-
 const char *function_name(u64 address, char *buffer, size_t size) {
     module *m = module_at(address);
     symbol *s = m ? symbol_at(m, address) : 0;
-    char *name = s ? short_name(s) : copied("");
-    snprintf(buffer, size, "%s", name);
+    char *name = s ? shortened(copied(s->name)) : 0;
+    snprintf(buffer, size, "%s", name ? name : "");
     free(name);
     return buffer;
 }
@@ -181,7 +179,7 @@ static char *lambda_among(const char *name) {
 int own_function_name(u64 address, char *buffer, size_t size) {
     module *m = module_at(address);
     symbol *s = m && !m->in_system && !m->is_recorder ? symbol_at(m, address) : 0;
-    char *name = s ? short_name(s) : 0;
+    char *name = s ? shortened(copied(s->name)) : 0;
     if (name && (is_of_cxx_library(name) || !strncmp(name, "__rust_", 7))) {
         free(name);
         name = lambda_among(s->name);
@@ -509,11 +507,6 @@ static void find_asked_places(void) {
     }
 }
 
-static int has_own_lines(module *m) {
-    answer yes;
-    return ask_one(reader_of(m), ASK_OWN_LINES, 0, 0, &yes);
-}
-
 static int has_callers(const module *m) {
     EACH(p, places.at, places.numbers.count)
         if (p->caller && module_at(p->caller) == m) return 1;
@@ -524,11 +517,13 @@ static int has_callers(const module *m) {
    when a frame of it is shown, and mostly none is. Its source files aren't the program's, so the names of
    those don't hang on it. */
 void find_places(void) {
+    answer yes;
     nowhere.text = line_end("");
     for (module *m = modules; m < modules + module_count; m++) {
         if (!m->in_system && !m->is_recorder) note_sources_of(m);
         m->is_late = m->is_recorder
-            || (m > modules && m->in_system && !(has_callers(m) && has_own_lines(m)));
+            || (m > modules && m->in_system
+                && !(has_callers(m) && ask_one(reader_of(m), ASK_OWN_LINES, 0, 0, &yes)));
         if (!m->is_late) ask_for_lines(m);
     }
     find_asked_places();

@@ -48,12 +48,12 @@ static u32 find_object(u64 at, int is_of_atomic) {
     return number;
 }
 
-static object *object_of(u64 i) {
-    int is_of_atomic = is_atomic(operation_of(i));
-    piece *p = only_piece(i);
+static object *object_of(const entry *e) {
+    int is_of_atomic = is_atomic(e->operation);
+    piece *p = only_piece(e);
     u32 number = p ? p->object : 0;
     if (!number || objects.at[number - 1].is_of_atomic != is_of_atomic)
-        number = find_object(address_of(i), is_of_atomic);
+        number = find_object(e->address, is_of_atomic);
     if (p) p->object = number;
     return &objects.at[number - 1];
 }
@@ -94,14 +94,14 @@ static void take_gifts(object *o, u32 t, int by_lock, handing hand, u64 caller) 
     *seen_by(o, t) = o->version;
 }
 
-void note_record(u64 i) {
-    thread_state *s = &threads[thread_of(i)];
-    if (s->gave_at != i + 1) s->gave = 0;
+void note_record(const entry *e) {
+    thread_state *s = &threads[e->thread];
+    if (s->gave_at != e->number + 1) s->gave = 0;
 }
 
-static void note_gift(u64 i, const object *o) {
-    threads[thread_of(i)].gave = index_of(o) + 1;
-    threads[thread_of(i)].gave_at = i + 1;
+static void note_gift(const entry *e, const object *o) {
+    threads[e->thread].gave = index_of(o) + 1;
+    threads[e->thread].gave_at = e->number + 1;
 }
 
 /* Who gave, and takes what others gave before it does anything else, may give it all on, and nothing besides:
@@ -128,16 +128,16 @@ static void take_noted(u32 t, handing hand, u64 caller) {
     threads[t].notes.count = 0;
 }
 
-static void read_value(u64 i, object *o, int by_lock, handing hand) {
-    if (acquires(i)) take_gifts(o, thread_of(i), by_lock, hand, caller_of(i));
-    else if (has_fences) note_gifts(o, thread_of(i));
+static void read_value(const entry *e, object *o, int by_lock, handing hand) {
+    if (acquires(e)) take_gifts(o, e->thread, by_lock, hand, e->caller);
+    else if (has_fences) note_gifts(o, e->thread);
 }
 
 /* After a release fence of its thread each store and update counts as a release. */
-static int gives(u64 i) { return releases(i) || threads[thread_of(i)].is_fenced; }
+static int gives(const entry *e) { return releases(e) || threads[e->thread].is_fenced; }
 
 /* An update that acquires and releases does so by a lock that it shares with its like. */
-static int is_by_lock(u64 i) { return operation_of(i) == OP_ATOMIC_UPDATE && acquires(i) && gives(i); }
+static int is_by_lock(const entry *e) { return e->operation == OP_ATOMIC_UPDATE && acquires(e) && gives(e); }
 
 static void give_own(object *o, u32 t, int locked) {
     give(o, t, locked);
@@ -148,35 +148,35 @@ static void give_own(object *o, u32 t, int locked) {
 
 /* A store that gives begins anew; any other ends what other threads gave, and goes on with its own thread's,
    which may be in a gift of another one by now. */
-static void store_value(u64 i, object *o) {
-    u32 t = thread_of(i);
+static void store_value(const entry *e, object *o) {
+    u32 t = e->thread;
     sight *s = sight_of(o, t);
-    int goes_on = !gives(i) && s->gave && s->stores == o->stores;
+    int goes_on = !gives(e) && s->gave && s->stores == o->stores;
     o->gifts.count = 0;
     o->stores++;
     if (goes_on) {
         *PUSH(o->gifts) = (gift){s->gave, t, 0};
         s->stores = o->stores;
     }
-    if (gives(i)) give_own(o, t, 1);
+    if (gives(e)) give_own(o, t, 1);
     else o->version++;
     o->head = o->version;
 }
 
 /* An update keeps what the value before gave, but for what is in its own gift; one by the lock has
    taken all. */
-static void write_value(u64 i, object *o) {
-    if (gives(i)) note_gift(i, o);
-    if (operation_of(i) == OP_ATOMIC_STORE) {
-        store_value(i, o);
+static void write_value(const entry *e, object *o) {
+    if (gives(e)) note_gift(e, o);
+    if (e->operation == OP_ATOMIC_STORE) {
+        store_value(e, o);
         return;
     }
-    if (gives(i)) give_own(o, thread_of(i), is_by_lock(i));
+    if (gives(e)) give_own(o, e->thread, is_by_lock(e));
 }
 
-static void pass_fence(u64 i, handing hand) {
-    if (acquires(i)) take_noted(thread_of(i), hand, caller_of(i));
-    if (releases(i)) threads[thread_of(i)].is_fenced = 1;
+static void pass_fence(const entry *e, handing hand) {
+    if (acquires(e)) take_noted(e->thread, hand, e->caller);
+    if (releases(e)) threads[e->thread].is_fenced = 1;
 }
 
 /* t takes what the last writer gave, if it hasn't. */
@@ -206,14 +206,14 @@ static void add_taker(object *o, u32 version, u32 t, u64 unused) {
     add_to_list(ENTRY(version_readers, index_of(o), version), t);
 }
 
-static void share_atomic(u64 i, object *o) {
-    if (operation_of(i) != OP_ATOMIC_STORE) read_value(i, o, is_by_lock(i), add_taker);
-    if (operation_of(i) == OP_ATOMIC_LOAD) {
-        if (acquires(i)) gives_all_on(o, thread_of(i));
-    } else write_value(i, o);
+static void share_atomic(const entry *e, object *o) {
+    if (e->operation != OP_ATOMIC_STORE) read_value(e, o, is_by_lock(e), add_taker);
+    if (e->operation == OP_ATOMIC_LOAD) {
+        if (acquires(e)) gives_all_on(o, e->thread);
+    } else write_value(e, o);
 }
 
-void share_fence(u64 i) { pass_fence(i, add_taker); }
+void share_fence(const entry *e) { pass_fence(e, add_taker); }
 
 /* Of each acquire of a lock, in the order of the run: is there another thread's critical section right before
    or behind its own? Else it takes nothing that its thread doesn't know, and its release gives nothing to
@@ -245,14 +245,13 @@ static void share_lock(object *o, u32 t, enum operation operation) {
     }
 }
 
-void share_object(u64 i) {
-    u32 t = thread_of(i);
-    enum operation operation = operation_of(i);
-    object *o = object_of(i);
+void share_object(const entry *e) {
+    u32 t = e->thread;
+    object *o = object_of(e);
     add_thread(&o->threads, t);
-    switch (operation) {
-    case OP_LOCK: case OP_UNLOCK: case OP_LOCK_INIT: share_lock(o, t, operation); break;
-    case OP_ATOMIC_LOAD: case OP_ATOMIC_STORE: case OP_ATOMIC_UPDATE: share_atomic(i, o); break;
+    switch (e->operation) {
+    case OP_LOCK: case OP_UNLOCK: case OP_LOCK_INIT: share_lock(o, t, e->operation); break;
+    case OP_ATOMIC_LOAD: case OP_ATOMIC_STORE: case OP_ATOMIC_UPDATE: share_atomic(e, o); break;
     case OP_READ_LOCK: take_newest(o, t, add_taker, 0); break;
     case OP_WRITE_LOCK: o->holder = t + 1; break;
     case OP_RW_UNLOCK:
@@ -263,8 +262,8 @@ void share_object(u64 i) {
     case OP_POST: *PUSH(o->posters) = t; break;
     case OP_WAIT: take_posts(o, t, add_taker, 0); break;
     case OP_BARRIER_INIT:
-        if (o->count && o->count != size_of(i)) o->recounted = 1;
-        o->count = size_of(i);
+        if (o->count && o->count != size_of(e)) o->recounted = 1;
+        o->count = size_of(e);
         break;
     case OP_ARRIVE:
         if (!*seen_by(o, t)) o->users++;
@@ -402,30 +401,29 @@ void each_held(held_lock give, const char *operation) {
 }
 
 /* Does an operation order threads? */
-static int orders_threads(u64 i, const object *o) {
-    enum operation operation = operation_of(i);
-    const hold *h = operation == OP_UNLOCK ? hold_of(thread_of(i), key_of(o, own)) : 0;
-    int is_of_several = operation == OP_LOCK ? orders_others.at[acquires_met++] : !h || h->orders;
+static int orders_threads(const entry *e, const object *o) {
+    const hold *h = e->operation == OP_UNLOCK ? hold_of(e->thread, key_of(o, own)) : 0;
+    int is_of_several = e->operation == OP_LOCK ? orders_others.at[acquires_met++] : !h || h->orders;
     return whole_trace || (o->threads.many && (is_of_several || o->foreign));
 }
 
 /* What an operation means for these, before and after its other events. */
-static void holds_before(u64 i, object *o, int is_private) {
-    u32 t = thread_of(i);
-    if (operation_of(i) == OP_UNLOCK && is_private) leave_hold(o, t, own, caller_of(i));
-    if (operation_of(i) != OP_RW_UNLOCK) return;
-    if (o->holder != t + 1) leave_hold(o, t, of_reader, caller_of(i));
-    else if (leave_hold(o, t, own, caller_of(i))) o->writer = 0;
+static void holds_before(const entry *e, object *o, int is_private) {
+    u32 t = e->thread;
+    if (e->operation == OP_UNLOCK && is_private) leave_hold(o, t, own, e->caller);
+    if (e->operation != OP_RW_UNLOCK) return;
+    if (o->holder != t + 1) leave_hold(o, t, of_reader, e->caller);
+    else if (leave_hold(o, t, own, e->caller)) o->writer = 0;
 }
 
-static void holds_after(u64 i, object *o, int is_private) {
-    u32 t = thread_of(i);
-    if (operation_of(i) == OP_LOCK && is_private && !o->foreign) take_hold(o, t, own, caller_of(i));
-    if (operation_of(i) == OP_READ_LOCK) take_hold(o, t, of_reader, caller_of(i));
-    if (operation_of(i) != OP_WRITE_LOCK) return;
+static void holds_after(const entry *e, object *o, int is_private) {
+    u32 t = e->thread;
+    if (e->operation == OP_LOCK && is_private && !o->foreign) take_hold(o, t, own, e->caller);
+    if (e->operation == OP_READ_LOCK) take_hold(o, t, of_reader, e->caller);
+    if (e->operation != OP_WRITE_LOCK) return;
     o->holder = t + 1;
     if (o->writer) return;             /* its last writer never released it */
-    take_hold(o, t, own, caller_of(i));
+    take_hold(o, t, own, e->caller);
     o->writer = t + 1;
 }
 
@@ -468,25 +466,25 @@ static void take_version(object *o, u32 version, u32 t, u64 caller) {
     pass_lock(o, t, to_thread(version, t), caller);
 }
 
-void fence_events(u64 i) {
-    if (acquires(i)) note_fence(i);
-    pass_fence(i, take_version);
+void fence_events(const entry *e) {
+    if (acquires(e)) note_fence(e);
+    pass_fence(e, take_version);
 }
 
 /* A store that gives is the first to take the lock of its head, so by that it gives alone. */
-static void atomic_events(u64 i, object *o) {
-    u32 t = thread_of(i);
-    u64 caller = caller_of(i);
-    int stores = operation_of(i) == OP_ATOMIC_STORE, loads = operation_of(i) == OP_ATOMIC_LOAD;
-    int by_lock = is_by_lock(i) || (stores && gives(i));
-    if (o->threads.many) note_use(i, index_of(o), gives(i));
-    if (!stores) read_value(i, o, by_lock, take_version);
-    if (loads && acquires(i) && gives_all_on(o, t)) publish(o, o->version, t, caller);
-    if (!loads) write_value(i, o);
+static void atomic_events(const entry *e, object *o) {
+    u32 t = e->thread;
+    u64 caller = e->caller;
+    int stores = e->operation == OP_ATOMIC_STORE, loads = e->operation == OP_ATOMIC_LOAD;
+    int by_lock = is_by_lock(e) || (stores && gives(e));
+    if (o->threads.many) note_use(e, index_of(o), gives(e));
+    if (!stores) read_value(e, o, by_lock, take_version);
+    if (loads && acquires(e) && gives_all_on(o, t)) publish(o, o->version, t, caller);
+    if (!loads) write_value(e, o);
     if (by_lock) take_lock(o, t, of_version(o->head), caller);
-    access_events(i);
+    access_events(e);
     if (by_lock) leave_lock(o, t, of_version(o->head), caller);
-    if (!loads && gives(i)) publish(o, o->version, t, caller);
+    if (!loads && gives(e)) publish(o, o->version, t, caller);
 }
 
 static void write_lock_events(object *o, u32 t, u64 caller) {
@@ -522,13 +520,13 @@ static void arrive_events(object *o, u32 t, u64 caller) {
     pass_lock(o, t, of_version(round), caller);
 }
 
-static void order_events(u64 i, object *o) {
-    u32 t = thread_of(i);
-    u64 caller = caller_of(i);
-    switch (operation_of(i)) {
+static void order_events(const entry *e, object *o) {
+    u32 t = e->thread;
+    u64 caller = e->caller;
+    switch (e->operation) {
     case OP_LOCK: case OP_UNLOCK:
         if (o->foreign) pass_lock(o, t, own, caller);
-        else if (operation_of(i) == OP_LOCK) take_lock(o, t, own, caller);
+        else if (e->operation == OP_LOCK) take_lock(o, t, own, caller);
         else leave_lock(o, t, own, caller);
         break;
     case OP_READ_LOCK: take_newest(o, t, take_version, caller); break;
@@ -538,17 +536,17 @@ static void order_events(u64 i, object *o) {
     case OP_WAIT: take_posts(o, t, take_version, caller); break;
     case OP_ARRIVE: arrive_events(o, t, caller); break;
     case OP_DEPART: pass_lock(o, t, of_version(*seen_by(o, t)), caller); break;
-    case OP_ATOMIC_LOAD: case OP_ATOMIC_STORE: case OP_ATOMIC_UPDATE: atomic_events(i, o); break;
+    case OP_ATOMIC_LOAD: case OP_ATOMIC_STORE: case OP_ATOMIC_UPDATE: atomic_events(e, o); break;
     default: break;
     }
 }
 
-void object_events(u64 i) {
-    object *o = object_of(i);
-    int orders = orders_threads(i, o);
-    holds_before(i, o, !orders);
-    if (!is_atomic(operation_of(i)) || !orders) access_events(i);
-    if (orders) order_events(i, o);
-    else if (operation_of(i) == OP_RW_UNLOCK && o->holder == thread_of(i) + 1) o->holder = 0;
-    holds_after(i, o, !orders);
+void object_events(const entry *e) {
+    object *o = object_of(e);
+    int orders = orders_threads(e, o);
+    holds_before(e, o, !orders);
+    if (!is_atomic(e->operation) || !orders) access_events(e);
+    if (orders) order_events(e, o);
+    else if (e->operation == OP_RW_UNLOCK && o->holder == e->thread + 1) o->holder = 0;
+    holds_after(e, o, !orders);
 }

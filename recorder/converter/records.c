@@ -3,6 +3,7 @@
 #include <errno.h>
 #include <fcntl.h>
 #include <stdio.h>
+#include <stdlib.h>
 #include <string.h>
 #include <sys/mman.h>
 #include <sys/stat.h>
@@ -13,33 +14,14 @@ enum { MAX_FREED = 1024 };
 static const char *record_path;
 u64 record_count;
 
-/* ---- the records at hand ---- */
-static const struct record *entries, *carried;               /* of the file; of the segment before */
+/* ---- the records in the order of the passes ---- */
+static const struct record *entries, *carried, *from;        /* of the file; of the segment before; now */
+static u32 *order;                     /* as by put_in_order, behind those that are carried */
 u64 entry_count;
+static u64 carried_count;
 enum { AT_ONCE = 1 << 16 };            /* entries */
-static uintptr_t at_hand;              /* where record 0 would stand, if all before them were */
-static u64 context_at_hand;            /* of a single one that is late, as in some_records */
-u64 records_end, carried_count;
-
-static inline const struct record *record_at(u64 i) {
-    return (const struct record *)(at_hand + i * sizeof(struct record));
-}
 
 void is_damaged(const char *how) { die("record of %s is damaged: %s", record_path, how); }
-
-static void have_at_hand(some_records next) {
-    at_hand = (uintptr_t)next.first - records_end * sizeof *next.first;
-    context_at_hand = next.context;
-    records_end += next.count;
-}
-
-void begin_records(void) {
-    records_end = 0;
-    have_at_hand((some_records){carried, carried_count, 0});
-    begin_entries();
-}
-
-void next_records(void) { have_at_hand(next_entries(AT_ONCE)); }
 
 /* A pass over all has gone by those before: they needn't stay in memory. */
 void forget_before(u64 i) {
@@ -52,19 +34,19 @@ void forget_before(u64 i) {
     forgotten = i;
 }
 
-enum operation operation_of(u64 i) { return operation_in(*record_at(i)); }
-u64 address_of(u64 i) { return record_at(i)->where & LOW_48_BITS; }
-u64 caller_of(u64 i) { return record_at(i)->what & LOW_48_BITS; }
-u64 late_context(u64 i) { return context_at_hand % IS_REPEATED; }
-int is_repeated(u64 i) { return context_at_hand / IS_REPEATED; }
+u64 next_records(u64 i) {
+    from = i < carried_count ? carried : entries;
+    if (i < carried_count) return carried_count;
+    if (i < record_count && !(order[i] & IS_LATE)) forget_before(order[i]);
+    return i + AT_ONCE;
+}
 
 /* ---- threads: the number of one that is over is used again by the next one forked with it ---- */
 static u32 thread_count;               /* of those met in this pass */
 static u32 with_number[THREAD_NUMBERS];
 static uint8_t is_used[THREAD_NUMBERS]; /* by one that was forked, or was there when a segment began */
 
-u32 thread_of(u64 i) { return with_number[record_at(i)->where >> 48]; }
-u32 other_thread_of(u64 i) { return with_number[address_of(i)]; }
+u32 other_thread_of(const entry *e) { return with_number[e->address]; }
 
 void begin_thread_pass(void) {
     thread_count = 1;
@@ -72,7 +54,7 @@ void begin_thread_pass(void) {
     memset(is_used, 0, sizeof is_used);
 }
 
-void meet_start(u64 i) { is_used[record_at(i)->where >> 48] = 1; }
+void meet_start(const entry *e) { is_used[e->its->where >> 48] = 1; }
 
 static u32 own_numbers = 1;            /* those of threads in records that were met are below it */
 
@@ -84,8 +66,8 @@ u32 next_thread(u32 t) { return t + 1 == own_numbers ? THREAD_NUMBERS : t + 1; }
 
 u32 thread_bound(void) { return thread_count < THREAD_NUMBERS ? THREAD_NUMBERS : thread_count; }
 
-int meet_fork(u64 i) {
-    u32 number = address_of(i);
+int meet_fork(const entry *e) {
+    u32 number = e->address;
     if (is_used[number]) with_number[number] = thread_bound();
     if (with_number[number] == THREADS) return 0;
     is_used[number] = 1;
@@ -120,23 +102,30 @@ static u64 size_in(const struct record *r) {
     return inside & IS_RANGE ? inside - IS_RANGE : 1ull << (inside & ((1 << LOGARITHM_BITS) - 1));
 }
 
-u64 size_of(u64 i) { return size_in(record_at(i)); }
+inline entry entry_at(u64 i) {
+    const struct record *its = &from[order[i] & ~IS_LATE];
+    return (entry){.its = its, .number = i, .address = its->where & LOW_48_BITS,
+                   .caller = its->what & LOW_48_BITS, .thread = with_number[its->where >> 48],
+                   .operation = operation_in(*its), .is_late = order[i] / IS_LATE};
+}
 
-void name_piece(u64 i, char *piece) { piece_of_name(*record_at(i), piece); }
+inline u64 size_of(const entry *e) { return size_in(e->its); }
 
-u64 depth_inside(u64 i) {
-    u64 inside = record_at(i)->what >> 54;
-    u64 depth = is_access(record_at(i)) && !(inside & IS_RANGE) ? inside >> LOGARITHM_BITS : DEPTH_BEFORE;
+u64 depth_inside(const entry *e) {
+    const u64 inside = e->its->what >> 54;
+    u64 depth = is_plain(e->operation) && !(inside & IS_RANGE) ? inside >> LOGARITHM_BITS : DEPTH_BEFORE;
     return depth == DEPTH_BEFORE ? MOST_FRAMES : depth;
 }
 
 /* ---- whether the entries are good ---- */
+static int is_good_access(const struct record *r) { return r->what >> 54 & IS_RANGE || size_in(r) <= 16; }
+
 static int is_good(const struct record *r) {
     enum operation operation = operation_in(*r);
     if (operation <= OP_SIZE || operation >= OP_LATE || r->where >> 48 >= THREAD_NUMBERS) return 0;
     if (size_follows(r) && (operation_in(r[1]) != OP_SIZE || size_follows(r + 1) || size_in(r) >= MAX_SIZE))
         return 0;
-    if (is_access(r)) return r->what >> 54 & IS_RANGE || size_in(r) <= 16;
+    if (is_access(r)) return is_good_access(r);
     if (operation == OP_FRAME) return size_in(r) < MOST_FRAMES;
     if (operation == OP_CONTEXT) return !size_in(r);
     if (operation == OP_NAME) return size_in(r) == 0 || size_in(r) == NAME_PIECE;
@@ -146,6 +135,7 @@ static int is_good(const struct record *r) {
 /* The entry or the two at `r`, number i of `count`. Returns how many they are, or 0: they aren't whole. */
 static inline u64 check(const struct record *r, u64 i, u64 count) {
     const u64 are_two = is_of_two(*r);
+    if (is_access(r) && !are_two && is_good_access(r) && r->where >> 48 < own_numbers) return 1;   /* most */
     if (!r->what || (are_two && (i + 1 == count || !r[1].what))) return 0;
     const struct record *its = r + is_late(*r);
     if ((is_late(*r) && !is_good_late(r->where, *its, i)) || !is_good(its))
@@ -162,8 +152,9 @@ static int has_sum;
 /* The entries up to the first that isn't whole. */
 static void check_entries(u64 most) {
     u64 sum = 0, at = 0;
+    if (most >= IS_LATE) die("%s has more entries than shb-std takes (%u)", record_path, IS_LATE - 1);
     for (u64 more; at < most && (more = check(&entries[at], at, most)); forget_before(at)) {
-        if (is_late(entries[at])) count_late(entries[at].where, most);
+        if (is_late(entries[at])) note_late(at, entries[at].where, most);
         for (; more; more--, at++) sum += entry_sum(at, entries[at]);
     }
     entry_count = at;
@@ -171,7 +162,8 @@ static void check_entries(u64 most) {
         die("%s was cut: %lu of its %lu records are there", record_path, entry_count, whole_count);
     if (has_sum && (entry_count > whole_count || sum != whole_sum))
         die("%s was changed after it was recorded", record_path);
-    record_count = find_late(entries, entry_count);
+    order = zeroed(entry_count, sizeof *order);
+    record_count = put_in_order(entries, entry_count, order);
 }
 
 static char *map_file(const char *path, u64 *size) {
@@ -228,24 +220,28 @@ void carry_blocks(const char *path) {
     fclose(file);
     for (u64 i = 0, more; i < carried_count; i += more)
         if (!(more = check(&blocks[i], i, carried_count))) die("%s is damaged", path);
+    u32 *behind = order;
+    order = zeroed(carried_count + record_count, sizeof *order);
+    for (u64 i = 0; i < carried_count; i++) order[i] = i;
+    memcpy(order + carried_count, behind, record_count * sizeof *order);
+    free(behind);
     carried = blocks;
     record_count += carried_count;
 }
 
 /* ---- what a record accesses ---- */
 /* The memory order of an atomic access or a fence: does it take over what a release gave, does it give on? */
-static u64 order_of(u64 i) {
-    return operation_of(i) == OP_FENCE ? size_of(i) : size_of(i) >> ATOMIC_SIZE_BITS;
+static u64 order_of(const entry *e) {
+    return e->operation == OP_FENCE ? size_of(e) : size_of(e) >> ATOMIC_SIZE_BITS;
 }
-int acquires(u64 i) { return order_of(i) != __ATOMIC_RELAXED && order_of(i) != __ATOMIC_RELEASE; }
-int releases(u64 i) { return order_of(i) >= __ATOMIC_RELEASE; }
+int acquires(const entry *e) { return order_of(e) != __ATOMIC_RELAXED && order_of(e) != __ATOMIC_RELEASE; }
+int releases(const entry *e) { return order_of(e) >= __ATOMIC_RELEASE; }
 
 /* The use of a lock is a read of its first byte.  A descriptor is no memory; who leaves a barrier uses it no
    more, for POSIX lets another thread end it then. */
-static int uses_object(u64 i) {
-    enum operation operation = operation_of(i);
-    return address_of(i) < FIRST_DESCRIPTOR && operation >= OP_LOCK && operation <= OP_USE
-        && operation != OP_BARRIER_INIT && operation != OP_DEPART;
+static int uses_object(const entry *e) {
+    return e->address < FIRST_DESCRIPTOR && e->operation >= OP_LOCK && e->operation <= OP_USE
+        && e->operation != OP_BARRIER_INIT && e->operation != OP_DEPART;
 }
 
 /* The size of a block that was seen; its allocator may free more than was asked for. */
@@ -255,11 +251,10 @@ static u64 freed_bytes(u64 address) {
     return b->size < MAX_FREED ? b->size : MAX_FREED;
 }
 
-static RARE u64 bytes_of_other(u64 i) {
-    enum operation operation = operation_of(i);
-    if (is_atomic(operation)) return size_of(i) & ((1 << ATOMIC_SIZE_BITS) - 1);
-    if (operation == OP_FREE) return freed_bytes(address_of(i));
-    return operation == OP_DESTROY || uses_object(i);
+static RARE u64 bytes_of_other(const entry *e) {
+    if (is_atomic(e->operation)) return size_of(e) & ((1 << ATOMIC_SIZE_BITS) - 1);
+    if (e->operation == OP_FREE) return freed_bytes(e->address);
+    return e->operation == OP_DESTROY || uses_object(e);
 }
 
-u64 accessed_bytes(u64 i) { return is_access(record_at(i)) ? size_of(i) : bytes_of_other(i); }
+u64 accessed_bytes(const entry *e) { return is_plain(e->operation) ? size_of(e) : bytes_of_other(e); }

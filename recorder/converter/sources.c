@@ -73,12 +73,6 @@ static void find_common_folder(void) {
     }
 }
 
-static void sort_sources(void) {
-    qsort(sources.at, sources.count, sizeof *sources.at, by_end);
-    find_common_folder();
-    sorted_count = sources.count;
-}
-
 void note_source(const char *path) {
     static map met;
     char *normal = normal_path(path);
@@ -109,7 +103,11 @@ const char *source_name(const char *path) {
     size_t strip = stripped ? strlen(stripped) : 0;
     if (!*normal) return path;
     if (stripped && !strncmp(normal, stripped, strip) && normal[strip] == '/') return normal + strip + 1;
-    if (sorted_count != sources.count) sort_sources();
+    if (sorted_count != sources.count) {
+        qsort(sources.at, sources.count, sizeof *sources.at, by_end);
+        find_common_folder();
+        sorted_count = sources.count;
+    }
     char **found = 0;
     if (sources.count) found = bsearch(&normal, sources.at, sources.count, sizeof *sources.at, by_end);
     if (!found) return strrchr(normal, '/') + 1;

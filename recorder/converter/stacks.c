@@ -112,31 +112,31 @@ static u32 outer_context(u32 number, u64 depth) {
 }
 
 /* In the first pass. */
-static void note_frame(u64 i) {
-    u32 *told = &threads[thread_of(i)].calls.told, outer;
-    if (!contexts.count) *PUSH(contexts) = (context){.record = i};       /* that without a function */
-    outer = outer_context(*told, size_of(i));
+static void note_frame(const entry *e) {
+    u32 *told = &threads[e->thread].calls.told, outer;
+    if (!contexts.count) *PUSH(contexts) = (context){.record = e->number};       /* that without a function */
+    outer = outer_context(*told, size_of(e));
     *told = contexts.count;
-    const call called = {.caller = caller_of(i), .function = address_of(i)};
-    context added = {.record = i, .call = called, .outer = outer, .depth = contexts.at[outer].depth + 1};
+    context added = {.record = e->number, .call = {.caller = e->caller, .function = e->address},
+                     .outer = outer, .depth = contexts.at[outer].depth + 1};
     *PUSH(contexts) = added;
 }
 
-static u32 context_of_frame(u64 i) {
-    return 1 + COUNT_BEFORE(k, contexts.count - 2, contexts.at[k + 1].record < i);
+static u32 context_of_frame(const entry *e) {
+    return 1 + COUNT_BEFORE(k, contexts.count - 2, contexts.at[k + 1].record < e->number);
 }
 
 /* That a record tells. */
-static u32 context_of(u64 i) {
-    if (operation_of(i) == OP_FRAME) return context_of_frame(i);
-    u64 number = late_context(i) ? late_context(i) - 1 : address_of(i);
+static u32 context_of(const entry *e) {
+    if (e->operation == OP_FRAME) return context_of_frame(e);
+    u64 number = e->is_late ? late_context(e) : e->address;
     return number < contexts.count ? number : 0;
 }
 
 /* The outermost of its functions that is the program's own. */
-u64 own_function(u64 i) {
+u64 own_function(const entry *e) {
     char name[NAME_BYTES];
-    u32 number = context_of(i);
+    u32 number = context_of(e);
     u64 found = 0;
     for (u32 k = number; k; k = contexts.at[k].outer) {
         const context *c = &contexts.at[k];
@@ -149,8 +149,8 @@ u64 own_function(u64 i) {
     return found;
 }
 
-static void meet_frame(thread_calls *s, u64 i) {
-    call *c = &contexts.at[s->told = context_of_frame(i)].call;
+static void meet_frame(thread_calls *s, const entry *e) {
+    call *c = &contexts.at[s->told = context_of_frame(e)].call;
     c->way = s->way;
     c->place = place_at(c->caller, c->function);
 }
@@ -172,29 +172,28 @@ static void enter(thread_calls *s, u32 number) {
     if (s->owned > d) s->owned = d;
 }
 
-void note_call(u64 i) {
-    if (operation_of(i) == OP_CONTEXT) threads[thread_of(i)].calls.told = context_of(i);
-    if (operation_of(i) == OP_CONTEXT || operation_of(i) == OP_PLACE) return;
+void note_call(const entry *e) {
+    if (e->operation == OP_CONTEXT) threads[e->thread].calls.told = context_of(e);
+    if (e->operation == OP_CONTEXT || e->operation == OP_PLACE) return;
     /* A library of the system that calls an outermost function isn't shown. */
-    int is_shown = operation_of(i) != OP_FRAME || size_of(i) || !is_of_system(caller_of(i));
-    if (is_shown) note_caller(caller_of(i));
-    if (operation_of(i) != OP_FRAME) return;
+    int is_shown = e->operation != OP_FRAME || size_of(e) || !is_of_system(e->caller);
+    if (is_shown) note_caller(e->caller);
+    if (e->operation != OP_FRAME) return;
     has_calls = 1;
-    note_frame(i);
-    note_hooked(address_of(i));
-    if (file) note_caller(address_of(i));
+    note_frame(e);
+    note_hooked(e->address);
+    if (file) note_caller(e->address);
 }
 
 /* A record of calls. */
-static void meet_told(thread_calls *s, u64 i) {
-    enum operation operation = operation_of(i);
-    if (operation == OP_WAY) {
-        told_way = caller_of(i);
-        has_way = i + 1;
+static void meet_told(thread_calls *s, const entry *e) {
+    if (e->operation == OP_WAY) {
+        told_way = e->caller;
+        has_way = e->number + 1;
     }
-    if (operation == OP_PLACE) told_place = address_of(i);
-    if (operation == OP_FRAME) meet_frame(s, i);
-    if (operation == OP_CONTEXT) s->told = context_of(i);
+    if (e->operation == OP_PLACE) told_place = e->address;
+    if (e->operation == OP_FRAME) meet_frame(s, e);
+    if (e->operation == OP_CONTEXT) s->told = context_of(e);
 }
 
 /* What a thread is in by its last record. Without a file of stacks few records are asked for it. */
@@ -205,23 +204,22 @@ static thread_calls *calls_of(u32 t) {
     return s;
 }
 
-void meet_call(u64 i) {
-    u32 t = thread_of(i);
+void meet_call(const entry *e) {
+    u32 t = e->thread;
     thread_calls *s = &threads[t].calls;
-    enum operation operation = operation_of(i);
-    int is_of_calls = operation >= OP_FRAME && operation <= OP_CONTEXT;
-    if (operation == OP_NAME) return;
-    s->way = has_way == i && !late_context(i) ? told_way : 0;
-    if (is_of_calls) meet_told(s, i);
-    if (operation != OP_WAY) has_place = operation == OP_PLACE;
-    if (operation == OP_START) s->end = address_of(i) + size_of(i);
-    s->now = late_context(i) ? context_of(i) : s->told;
-    s->caller = is_of_calls ? 0 : caller_of(i);
-    s->inside = depth_inside(i);
+    int is_of_calls = e->operation >= OP_FRAME && e->operation <= OP_CONTEXT;
+    if (e->operation == OP_NAME) return;
+    s->way = has_way == e->number && !e->is_late ? told_way : 0;
+    if (is_of_calls) meet_told(s, e);
+    if (e->operation != OP_WAY) has_place = e->operation == OP_PLACE;
+    if (e->operation == OP_START) s->end = e->address + size_of(e);
+    s->now = e->is_late ? context_of(e) : s->told;
+    s->caller = is_of_calls ? 0 : e->caller;
+    s->inside = depth_inside(e);
     if (!with_stacks) return;
     enter(s, s->told);
     calls_of(t);
-    if (operation < OP_FRAME || operation == OP_CONTEXT) leave_functions(s);
+    if (e->operation < OP_FRAME || e->operation == OP_CONTEXT) leave_functions(s);
 }
 
 /* A way is one only if it lies in the function that was entered last. */
@@ -378,30 +376,30 @@ static int is_first_load(u64 store, u32 t, int acquires) {
     return map_adds(&loaded, store, (u64)t << 1 | acquires);
 }
 
-void note_use(u64 i, u64 object, int gives) {
+void note_use(const entry *e, u64 object, int gives) {
     static const char *const orders[] = {"relaxed", "acquire", "release", "both"};
     static u64 stores;
     static INTERNED(u64) last_stores;  /* of objects, each with its thread; 0 before one */
     if (!with_stacks) return;
-    u32 t = thread_of(i);
+    u32 t = e->thread;
     u64 *last = ENTRY(last_stores, object, 0);
-    int is_load = operation_of(i) == OP_ATOMIC_LOAD, is_store = operation_of(i) == OP_ATOMIC_STORE;
-    if (is_load && (!*last || (*last & 0xffff) == t || !is_first_load(*last, t, acquires(i)))) return;
+    int is_load = e->operation == OP_ATOMIC_LOAD, is_store = e->operation == OP_ATOMIC_STORE;
+    if (is_load && (!*last || (*last & 0xffff) == t || !is_first_load(*last, t, acquires(e)))) return;
     if (!is_load) *last = ++stores << 16 | t;
     if (!notes_uses()) return;
-    const block *b = block_at(address_of(i));
-    note_name(address_of(i), block_number(b), written + 1, t);
-    part name = variable_name(address_of(i), b), place = place_of(caller_of(i));
+    const block *b = block_at(e->address);
+    note_name(e->address, block_number(b), written + 1, t);
+    part name = variable_name(e->address, b), place = place_of(e->caller);
     fprintf(lines, "use %lu\t%.*s\t%s\t%.*s\t%s %s%s\n", written + 1, (int)name.length, name.at,
             thread_name(t), (int)place.length, place.at,
-            is_load ? "load" : is_store ? "store" : "update", orders[acquires(i) + 2 * (!is_load && gives)],
-            is_repeated(i) ? " again" : "");
+            is_load ? "load" : is_store ? "store" : "update", orders[acquires(e) + 2 * (!is_load && gives)],
+            is_repeated(e) ? " again" : "");
 }
 
-void note_fence(u64 i) {
+void note_fence(const entry *e) {
     if (!with_stacks || !notes_uses()) return;
-    part place = place_of(caller_of(i));
-    fprintf(lines, "use %lu\t\t%s\t%.*s\tfence acquire\n", written + 1, thread_name(thread_of(i)),
+    part place = place_of(e->caller);
+    fprintf(lines, "use %lu\t\t%s\t%.*s\tfence acquire\n", written + 1, thread_name(e->thread),
             (int)place.length, place.at);
 }
 
@@ -493,14 +491,14 @@ static void write_stack(u32 k) {
 enum { MOST_SAID = 20 };               /* frames */
 static struct { u64 address, caller; u32 thread, node; int signal; uint8_t is_met, has_address; } crash;
 
-void note_crash(u64 i) {
-    crash.signal = size_of(i) % HAS_ADDRESS;
-    crash.has_address = size_of(i) / HAS_ADDRESS;
-    crash.address = address_of(i);
-    crash.caller = own_place(thread_of(i), caller_of(i));
-    crash.thread = thread_of(i);
+void note_crash(const entry *e) {
+    crash.signal = size_of(e) % HAS_ADDRESS;
+    crash.has_address = size_of(e) / HAS_ADDRESS;
+    crash.address = e->address;
+    crash.caller = own_place(e->thread, e->caller);
+    crash.thread = e->thread;
     crash.is_met = 1;
-    crash.node = file ? node_now(crash.thread, caller_of(i)) : 0;
+    crash.node = file ? node_now(crash.thread, e->caller) : 0;
 }
 
 /* On standard error: of the calls that have a line or a name. */

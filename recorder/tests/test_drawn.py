@@ -272,26 +272,33 @@ FAULTS_OF_MANY = (
     ("accesses.c", " && last->piece == number", ""),
 )
 FAULTS = {  # to plant in the converter: the file, what stands there, and what in its place
-    "users": ("accesses.c", "    add_thread(&b->users, t);", ""),
-    "cuts": ("accesses.c", "if (operation_of(i) != OP_FREE) cut(end_of(i));", ""),
+    "users": ("accesses.c", "    add_thread(&b->users, e->thread);", ""),
+    "cuts": ("accesses.c", "cut(e->address, e->operation == OP_FREE ? e->address : end);",
+             "cut(e->address, e->address);"),
     "atomics": ("accesses.c", "if (u->writes_atomically && has_others(users->readers, u->thread)) {",
                 "if (u->writes_atomically && users->readers.many) {"),
-    "reuse": ("memory.c", "u32 newest = grain > p->whole ? grain : p->whole;", "u32 newest = grain ? 1 : "
-              "p->whole;"),
-    "late": ("late.c", "u64 order = late[k] >> NUMBER_BITS;", "u64 order = k - from;"),
+    "reuse": ("memory.c", "return grain > p->whole ? grain : p->whole;",
+              "return grain ? 1 : p->whole;"),
+    "what was found is kept for a new block": ("memory.c", "    memory_state++;\n    return &blocks",
+                                               "    return &blocks"),
+    "what was used before others did is cut no more": ("accesses.c", "else if (b && i < b->shared_at) {",
+                                                       "else if (0) {"),
+    "a write after a read is the same use": ("bundles.c", "s->region * 2 + (writes ? WRITES : 0)",
+                                             "s->region * 2"),
+    "late": ("late.c", "const u64 order = its->where % POSITIONS;", "const u64 order = end - first;"),
     "list_name": ("events.c", "        part name = variable_name(p->at, block", "        part name = "
                   "variable_name(p->at & ~1ul, block"),
-    "shared_lock": ("objects.c", "(o->threads.many && (", "(is_atomic(operation) && ("),
+    "shared_lock": ("objects.c", "(o->threads.many && (", "(is_atomic(e->operation) && ("),
     "the last section before another thread's": ("objects.c", "orders_others.at[o->section - 1] = orders",
                                                  "orders"),
     "the first section behind another thread's": ("objects.c", "= orders_others.at[orders_others.count - 1] "
                                                   "= 1;", "= 1;"),
     "an atomic read stands for a plain one": ("accesses.c", " | (u64)u->reads << 63", ""),
     "repeats": ("accesses.c", " && last->writes == this.writes", ""),
-    "every write is the last": ("accesses.c", "if (i < p->last_write) {", "if (0) {"),
-    "who writes atomically is no writer": ("accesses.c", "    add_thread(&p->writers", "    if (u.writes) "
+    "every write is the last": ("accesses.c", "if (e->number < p->last_write) {", "if (0) {"),
+    "who writes atomically is no writer": ("accesses.c", "    add_thread(&p->writers", "    if (u->writes) "
                                            "add_thread(&p->writers"),
-    "fences": ("objects.c", "if (releases(i)) threads[thread_of(i)].is_fenced = 1;", ""),
+    "fences": ("objects.c", "if (releases(e)) threads[e->thread].is_fenced = 1;", ""),
     "what others gave is dropped": ("objects.c", "if (g->giver != t && g->version > last)", "if (0)"),
     "a wait takes one post": ("objects.c", "threads[poster].taken_by == waits", "k < *last"),
     "more than gifts is given on": ("objects.c", " || threads[t].gave != index_of(o) + 1", ""),
@@ -311,7 +318,7 @@ FAULTS = {  # to plant in the converter: the file, what stands there, and what i
     "a fork ends no repeats": (
         "events.c", "if (*operation != 'r' || operation[1]) threads", "if (!strchr(\"rf\", *operation)) "
                                                                       "threads"),
-    "acquire fences": ("objects.c", "if (acquires(i)) take_noted(thread_of(i), hand, caller_of(i));", ""),
+    "acquire fences": ("objects.c", "if (acquires(e)) take_noted(e->thread, hand, e->caller);", ""),
     "numbers that are used again": ("records.c", "if (is_used[number]) with_number[number] = thread_bound();",
                                     ""),
 }
@@ -324,8 +331,8 @@ FAULTS_OF_BUNDLES = {
     "reading ends no phase of another's writing": ("bundles.c", "(writes || b->writer)", "writes"),
     "writing ends no phase of reading": ("bundles.c", "(writes || b->writer)", "b->writer"),
     "a last use behind its phase": ("bundles.c", "for (u32 k = b->users;", "for (u32 k = 0;"),
-    "an atomic is in a bundle": ("bundles.c", "{ history_of(number)->last = APART; }",
-                                 "{ note_history(number, 0, 0); }"),
+    "an atomic is in a bundle": ("accesses.c", "if (in_region == APART) p->last = APART;",
+                                 "if (in_region == APART) note_history(p, 2);"),
     "a page has other numbers": ("events.c", "        meet_span();\n        events++;\n    }\n    threads",
                                  "        meet_span();\n    }\n    threads"),
 }
