@@ -67,19 +67,13 @@ int named_type(Dwarf_Die *of, Dwarf_Die *type) {
 
 int type_of(Dwarf_Die *of, Dwarf_Die *type) { return named_type(of, type) && plain_type(type); }
 
-/* The first index where none is told, as the language has it; 1 in Fortran. */
-static Dwarf_Sword default_first(Dwarf_Die *of) {
-    Dwarf_Die unit;
-    Dwarf_Sword first = 0;
-    return dwarf_diecu(of, &unit, 0, 0) && !dwarf_default_lower_bound(dwarf_srclang(&unit), &first) ? first
-        : 0;
-}
-
-/* How many elements an array has in each of its dimensions, 0 of none that is told, and the first index. */
+/* How many elements an array has in each of its dimensions, 0 of none that is told, and the first index: if
+   none is told that of the language, 1 in Fortran. */
 static int read_dimensions(Dwarf_Die *array, u64 *counts, Dwarf_Sword *firsts) {
     int found = 0;
-    Dwarf_Die e;
-    Dwarf_Sword usual = default_first(array);
+    Dwarf_Die e, unit;
+    Dwarf_Sword usual = 0;
+    if (dwarf_diecu(array, &unit, 0, 0)) dwarf_default_lower_bound(dwarf_srclang(&unit), &usual);
     EACH_CHILD(&e, array) {
         Dwarf_Attribute a;
         u64 last;
@@ -171,22 +165,13 @@ void add_name(text *to, const char *before, const char *name, u64 rest) {
     to->rest = rest;
 }
 
-/* As Fortran's, whose first index is the innermost. */
-static int is_by_columns(Dwarf_Die *array) {
-    Dwarf_Die unit;
-    int language = dwarf_diecu(array, &unit, 0, 0) ? dwarf_srclang(&unit) : 0;
-    return language == DW_LANG_Fortran77 || language == DW_LANG_Fortran90 || language == DW_LANG_Fortran95
-        || language == DW_LANG_Fortran03
-        || language == DW_LANG_Fortran08;
-}
-
 /* Adds the indices of the element of an array that has all of these bytes, where there is one; else those of
-   its row. */
+   its row. Of several in Fortran the first is the innermost: these aren't told. */
 static int add_indices(Dwarf_Die *array, Dwarf_Die *of, u64 *offset, u64 length, text *to) {
     u64 counts[MOST_DIMENSIONS], stride = size_of_type(of), strides[MOST_DIMENSIONS];
     Dwarf_Sword firsts[MOST_DIMENSIONS];
     int dimensions = read_dimensions(array, counts, firsts);
-    if (dimensions > 1 && is_by_columns(array)) return 0;
+    if (dimensions > 1 && dwarf_arrayorder(array) == DW_ORD_col_major) return 0;
     for (int k = dimensions; k-- > 0; stride *= counts[k]) strides[k] = stride;
     for (int k = 0; k < dimensions; k++) {
         char index[24];
