@@ -133,7 +133,6 @@ APART void made(string_call *its, string *s) {
     writes_words(its, s);
     writes(its, s->characters, s->length + 1);
 }
-APART void ends(string_call *its, string *s) { made(its, s); }
 /* Its block goes as it is. */
 APART void moves(string_call *its, string *s) {
     writes_words(its, s);

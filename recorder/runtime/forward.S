@@ -56,44 +56,36 @@ forward_first:
     .size forward_first, . - forward_first
 
 /* Names of ThreadSanitizer's library at which nothing is done, for the record has nothing of it, or that ask
-   for what there isn't. Whatever their words are, the answer is 0 or a null pointer. */
-.macro NOTHING names:vararg
+   for what there isn't, as AnnotateBenignRace and __tsan_java_finalize. Whatever their words are, the answer
+   is 0 or a null pointer. What the names of a line begin with stands before them. */
+.macro NOTHING prefix, names:vararg
     .irp name, \names
-    .globl \name
-    .type \name, @function
-\name:
+    .globl \prefix\name
+    .type \prefix\name, @function
+\prefix\name:
     .endr
 .endm
-    NOTHING AnnotateBenignRace, AnnotateBenignRaceSized, AnnotateCondVarSignal, AnnotateCondVarSignalAll
-    NOTHING AnnotateCondVarWait, AnnotateEnableRaceDetection, AnnotateExpectRace, AnnotateFlushExpectedRaces
-    NOTHING AnnotateFlushState, AnnotateIgnoreReadsBegin, AnnotateIgnoreReadsEnd, AnnotateIgnoreSyncBegin
-    NOTHING AnnotateIgnoreSyncEnd, AnnotateIgnoreWritesBegin, AnnotateIgnoreWritesEnd
-    NOTHING AnnotateMemoryIsInitialized, AnnotateMemoryIsUninitialized, AnnotateMutexIsNotPHB
-    NOTHING AnnotateMutexIsUsedAsCondVar, AnnotateNewMemory, AnnotateNoOp, AnnotatePCQCreate
-    NOTHING AnnotatePCQDestroy, AnnotatePCQGet, AnnotatePCQPut, AnnotatePublishMemoryRange
-    NOTHING AnnotateRWLockCreate, AnnotateRWLockCreateStatic, AnnotateRWLockDestroy, AnnotateTraceMemory
-    NOTHING AnnotateUnpublishMemoryRange, WTFAnnotateBenignRaceSized
-    NOTHING __tsan_external_assign_tag, __tsan_external_register_header, __tsan_external_register_tag
-    NOTHING __tsan_flush_memory, __tsan_get_alloc_stack, __tsan_get_current_report, __tsan_get_report_data
-    NOTHING __tsan_get_report_loc, __tsan_get_report_loc_object_type, __tsan_get_report_mop
-    NOTHING __tsan_get_report_mutex, __tsan_get_report_stack, __tsan_get_report_tag, __tsan_get_report_thread
-    NOTHING __tsan_get_report_unique_tid, __tsan_ignore_thread_begin, __tsan_ignore_thread_end
-    NOTHING __tsan_java_finalize, __tsan_java_find, __tsan_java_fini, __tsan_java_free, __tsan_java_init
-    NOTHING __tsan_mutex_create, __tsan_mutex_destroy, __tsan_mutex_post_divert, __tsan_mutex_post_signal
-    NOTHING __tsan_mutex_post_unlock, __tsan_mutex_pre_divert, __tsan_mutex_pre_lock, __tsan_mutex_pre_signal
-    NOTHING __tsan_set_fiber_name, __tsan_testonly_shadow_stack_current_size
-    NOTHING __sanitizer_cov_8bit_counters_init, __sanitizer_cov_bool_flag_init, __sanitizer_cov_dump
-    NOTHING __sanitizer_cov_pcs_init, __sanitizer_cov_reset, __sanitizer_cov_trace_cmp
-    NOTHING __sanitizer_cov_trace_cmp1, __sanitizer_cov_trace_cmp2, __sanitizer_cov_trace_cmp4
-    NOTHING __sanitizer_cov_trace_cmp8, __sanitizer_cov_trace_const_cmp1, __sanitizer_cov_trace_const_cmp2
-    NOTHING __sanitizer_cov_trace_const_cmp4, __sanitizer_cov_trace_const_cmp8, __sanitizer_cov_trace_div4
-    NOTHING __sanitizer_cov_trace_div8, __sanitizer_cov_trace_gep, __sanitizer_cov_trace_pc_guard
-    NOTHING __sanitizer_cov_trace_pc_guard_init, __sanitizer_cov_trace_pc_indir, __sanitizer_cov_trace_switch
-    NOTHING __sanitizer_dump_coverage, __sanitizer_dump_trace_pc_guard_coverage
-    NOTHING __sanitizer_get_module_and_offset_for_pc, __sanitizer_get_report_path
-    NOTHING __sanitizer_get_unmapped_bytes, __sanitizer_install_malloc_and_free_hooks
-    NOTHING __sanitizer_print_stack_trace, __sanitizer_report_error_summary, __sanitizer_sandbox_on_notify
-    NOTHING __sanitizer_set_death_callback, __sanitizer_set_report_fd, __sanitizer_set_report_path
+    NOTHING Annotate, BenignRace, BenignRaceSized, CondVarSignal, CondVarSignalAll, CondVarWait
+    NOTHING Annotate, EnableRaceDetection, ExpectRace, FlushExpectedRaces, FlushState, IgnoreReadsBegin
+    NOTHING Annotate, IgnoreReadsEnd, IgnoreSyncBegin, IgnoreSyncEnd, IgnoreWritesBegin, IgnoreWritesEnd
+    NOTHING Annotate, MemoryIsInitialized, MemoryIsUninitialized, MutexIsNotPHB, MutexIsUsedAsCondVar
+    NOTHING Annotate, NewMemory, NoOp, PCQCreate, PCQDestroy, PCQGet, PCQPut, PublishMemoryRange
+    NOTHING Annotate, RWLockCreate, RWLockCreateStatic, RWLockDestroy, TraceMemory, UnpublishMemoryRange
+    NOTHING WTFAnnotate, BenignRaceSized
+    NOTHING __tsan_, external_assign_tag, external_register_header, external_register_tag, flush_memory
+    NOTHING __tsan_, get_alloc_stack, get_current_report, ignore_thread_begin, ignore_thread_end
+    NOTHING __tsan_, set_fiber_name, testonly_shadow_stack_current_size
+    NOTHING __tsan_get_report_, data, loc, loc_object_type, mop, mutex, stack, tag, thread, unique_tid
+    NOTHING __tsan_java_, finalize, find, fini, free, init
+    NOTHING __tsan_mutex_, create, destroy, post_divert, post_signal, post_unlock, pre_divert, pre_lock
+    NOTHING __tsan_mutex_, pre_signal
+    NOTHING __sanitizer_, cov_8bit_counters_init, cov_bool_flag_init, cov_dump, cov_pcs_init, cov_reset
+    NOTHING __sanitizer_, dump_coverage, dump_trace_pc_guard_coverage, get_module_and_offset_for_pc
+    NOTHING __sanitizer_, get_report_path, get_unmapped_bytes, install_malloc_and_free_hooks
+    NOTHING __sanitizer_, print_stack_trace, report_error_summary, sandbox_on_notify, set_death_callback
+    NOTHING __sanitizer_, set_report_fd, set_report_path
+    NOTHING __sanitizer_cov_trace_, cmp, cmp1, cmp2, cmp4, cmp8, const_cmp1, const_cmp2, const_cmp4
+    NOTHING __sanitizer_cov_trace_, const_cmp8, div4, div8, gep, pc_guard, pc_guard_init, pc_indir, switch
     endbr64
     xorl %eax, %eax
     ret

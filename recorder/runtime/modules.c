@@ -63,7 +63,12 @@ static struct module bounds_of(const struct dl_phdr_info *info) {
     return m;
 }
 
-static int see_module(struct dl_phdr_info *info, size_t size, void *unused) {
+static unsigned long long seen_modules;
+
+/* If there are more than were seen; how many gets their number. */
+static int see_module(struct dl_phdr_info *info, size_t size, void *how_many) {
+    if (info->dlpi_adds == seen_modules) return 1;
+    *(unsigned long long *)how_many = info->dlpi_adds;
     struct module m = bounds_of(info);
     uint64_t own = (uint64_t)see_module;
     enum language language = WITHOUT_HOOKS;
@@ -156,20 +161,11 @@ int is_behind_the_c_library(void) {
     return 0;
 }
 
-static int count_modules(struct dl_phdr_info *info, size_t size, void *count) {
-    *(unsigned long long *)count = info->dlpi_adds;
-    return 1;
-}
-
-static unsigned long long seen_modules;
-
 /* called by each instrumented file's constructor, so also after a dlopen */
 PUBLIC void __tsan_init(void) {
-    unsigned long long count = 0;
-    dl_iterate_phdr(count_modules, &count);
-    if (count == seen_modules) return;
-    seen_modules = count;
-    dl_iterate_phdr(see_module, 0);
+    unsigned long long how_many = seen_modules;
+    dl_iterate_phdr(see_module, &how_many);
+    seen_modules = how_many;
 }
 
 /* ---- modules that go: none comes to their addresses, by which the record names code and variables ---- */

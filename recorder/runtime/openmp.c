@@ -115,20 +115,16 @@ PUBLIC void *GOMP_single_copy_start(void) {
 BARRIER(GOMP_single_copy_end)
 
 /* ---- locks ---- */
-static object critical, atomic;
-
-static void note_lock(enum operation operation, void *lock, uint64_t caller) {
-    if (lock) note(operation, lock, caller);
-}
+static object critical, atomic, ordered;
 
 #define LOCKS(takes, gives, its) \
     PUBLIC void takes(void *lock) { \
         let_others_run(); \
         REAL(takes)(lock); \
-        note_lock(OP_LOCK, its, CALLER); \
+        note(OP_LOCK, its, CALLER); \
     } \
     PUBLIC void gives(void *lock) { \
-        note_lock(OP_UNLOCK, its, CALLER); \
+        note(OP_UNLOCK, its, CALLER); \
         REAL(gives)(lock); \
     }
 #define TESTS_LOCK(name) \
@@ -138,7 +134,7 @@ static void note_lock(enum operation operation, void *lock, uint64_t caller) {
         else let_others_run(); \
         return r; \
     }
-#define ORDERED (now ? (void *)now->team->ordered : 0)
+#define ORDERED (now ? now->team->ordered : ordered)
 LOCKS(GOMP_critical_start, GOMP_critical_end, critical)
 LOCKS(GOMP_critical_name_start, GOMP_critical_name_end, lock)
 LOCKS(GOMP_atomic_start, GOMP_atomic_end, atomic)

@@ -54,7 +54,7 @@ CALLS = [(re.compile(pattern), *said) for pattern, *said in (
     *SEARCHES,
     (r"_M_set_length.*", 9, "writes_words(&its, a.s);", "writes(&its, a.s->characters + b.n, 1);"),
     (r"_M_(data|length|capacity)\(.+\)", 9, "writes_words(&its, a.s);", ""),
-    (r"~basic_string.*|_M_dispose.*|_M_destroy.*", 9, "ends(&its, a.s);", ""),
+    (r"~basic_string.*|_M_dispose.*|_M_destroy.*", 9, "made(&its, a.s);", ""),
     (r"basic_string\(S&&.*", 0, "", "moves(&its, a.s);"),
     (r".*\(S&.*", 0, "moves(&its, a.s);", "moves(&its, a.s);"),
     (r"basic_string.*|_M_construct.*", 0, "", "made(&its, a.s);"),
