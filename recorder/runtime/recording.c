@@ -115,6 +115,39 @@ int is_segment_full(void) {
         || (written > segment_end - segment_records && seconds_now() >= segment_until);
 }
 
+/* ---- the locks that are held: a segment begins with them. So each access has its locks, and who releases
+   one orders those who take it next ---- */
+enum { MOST_HELD = 1 << 16 };
+static struct record held_locks[MOST_HELD];                  /* by which they were taken, in their order */
+static uint32_t held_count;
+
+/* Ends the last hold with these bits, or all of them. Returns whether there was one. */
+static int end_holds(uint64_t where, uint64_t bits, int all) {
+    int found = 0;
+    for (uint32_t k = held_count; k-- > 0 && (all || !found);) {
+        if ((held_locks[k].where ^ where) & bits) continue;
+        found = 1;
+        held_count--;
+        for (uint32_t i = k; i < held_count; i++) held_locks[i] = held_locks[i + 1];
+    }
+    return found;
+}
+
+/* Each record that may take or leave one. A lock may be released by another thread than took it. */
+static void note_held(struct record r) {
+    switch ((enum operation)(r.what >> 48 & 63)) {
+    case OP_LOCK: case OP_READ_LOCK: case OP_WRITE_LOCK:
+        if (held_count < MOST_HELD) held_locks[held_count++] = r;
+        else stop_recording("too many locks are held");
+        break;
+    case OP_UNLOCK: case OP_RW_UNLOCK: if (!end_holds(r.where, ~0ull, 0)) end_holds(r.where, LOW_48_BITS, 0);
+    break;
+    case OP_LOCK_INIT: case OP_DESTROY: end_holds(r.where, LOW_48_BITS, 1); break;
+    case OP_JOIN: end_holds(r.where << 48, ~LOW_48_BITS, 1); break;
+    default: break;
+    }
+}
+
 /* ---- records ---- */
 static struct record record_of(const thread *t, enum operation operation, uint64_t where, uint64_t size,
                                uint64_t caller) {
@@ -459,7 +492,7 @@ int leave_recording(void) {
     forget_record();
     if (!going_on) end_cells();
     if (self) forget_told(self);
-    forget_held();
+    held_count = 0;
     begin_counting(0);
     atomic_store(&room, CHILD_BYTES / sizeof *records);
     munmap(parents, map_bytes());

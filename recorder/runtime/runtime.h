@@ -261,12 +261,6 @@ void put_name(thread *t, thread *named, const char *name);
 uint64_t begin_quick(thread *t);       /* with the turn, at a hook's end: so many hooks may be quick now */
 void end_quick(thread *t);             /* with the turn; or under the guard, by the one who took it over */
 
-/* held.c: the locks that are held, with which each segment of a record begins. */
-void note_held(struct record r);       /* each record that may take or leave one */
-void forget_held(void);
-extern struct record held_locks[];     /* the records by which they were taken, in their order */
-extern uint32_t held_count;
-
 /* modules.c */
 struct module { uint64_t low, high; int is_in_c; };
 extern struct module modules[];        /* those compiled with -fsanitize=thread */
