@@ -332,7 +332,7 @@ FAULTS_OF_BUNDLES = {
     "writing ends no phase of reading": ("bundles.c", "(writes || b->writer)", "b->writer"),
     "a last use behind its phase": ("bundles.c", "for (u32 k = b->users;", "for (u32 k = 0;"),
     "an atomic is in a bundle": ("accesses.c", "if (in_region == APART) p->last = APART;",
-                                 "if (in_region == APART) note_history(p, 2);"),
+                                 "if (in_region == APART) note_history(p, use_in_region(u->thread, 0));"),
     "a page has other numbers": ("events.c", "        meet_span();\n        events++;\n    }\n    threads",
                                  "        meet_span();\n    }\n    threads"),
 }
