@@ -115,16 +115,20 @@ PUBLIC void *GOMP_single_copy_start(void) {
 BARRIER(GOMP_single_copy_end)
 
 /* ---- locks ---- */
-static object critical, atomic, ordered;
+static object critical, atomic;
+
+static void note_lock(enum operation operation, void *lock, uint64_t caller) {
+    if (lock) note(operation, lock, caller);
+}
 
 #define LOCKS(takes, gives, its) \
     PUBLIC void takes(void *lock) { \
         let_others_run(); \
         REAL(takes)(lock); \
-        note(OP_LOCK, its, CALLER); \
+        note_lock(OP_LOCK, its, CALLER); \
     } \
     PUBLIC void gives(void *lock) { \
-        note(OP_UNLOCK, its, CALLER); \
+        note_lock(OP_UNLOCK, its, CALLER); \
         REAL(gives)(lock); \
     }
 #define TESTS_LOCK(name) \
@@ -134,7 +138,7 @@ static object critical, atomic, ordered;
         else let_others_run(); \
         return r; \
     }
-#define ORDERED (now ? now->team->ordered : ordered)
+#define ORDERED (now ? (void *)now->team->ordered : 0)
 LOCKS(GOMP_critical_start, GOMP_critical_end, critical)
 LOCKS(GOMP_critical_name_start, GOMP_critical_name_end, lock)
 LOCKS(GOMP_atomic_start, GOMP_atomic_end, atomic)
