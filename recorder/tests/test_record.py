@@ -172,7 +172,7 @@ class Late(recorder.Case):
         for damaged in (late(4, 1, access), late((1 << 28) - 1, 1, access), late(2, 1, access),
                         late(1, 1, entry(0, "LOCK", LOCK, 0x102)),
                         late(1, 1, entry(0, "READ", RANGE, 0x103, 600)), late(1, 1, late(1, 1, access)),
-                        late(1 << 29, 1, access),
+                        late(1 << 29, 1, access), late(1, 1, access) + late(4, 1, access),
                         late(1, 1, entry(65535, "READ", RANGE, 0x103, 4))):
             answer = self.convert(before + damaged)
             self.assertEqual((answer.returncode, answer.stdout), (2, b""))
