@@ -26,10 +26,10 @@ int is_passed_over(u64 i) { return !known[i].accessed && !known[i].means_more; }
 /* ---- 1: users of blocks; a range over several is shared, to be cut at their bounds. What is shared is cut
    into pieces. ---- */
 static void use_block(block *b, const entry *e, int with_others) {
-    if (!b || b->users.many) return;
+    if (!b || b->users == SEVERAL) return;
     add_thread(&b->users, e->thread);
-    if (with_others) b->users.many = 1;
-    if (b->users.many) b->shared_at = e->number;
+    if (with_others) b->users = SEVERAL;
+    if (b->users == SEVERAL) b->shared_at = e->number;
 }
 
 static int means_more(const entry *e) {
@@ -49,7 +49,7 @@ static void cut_access(const entry *e, u64 end) {
 
 /* What is known of accesses of the same bytes that were met lately, as long as there is no new block. found:
    0 of new ones. steps: those of ranges that it took. */
-typedef struct { u64 address, end, state, steps; u32 found; } recent_access;
+typedef struct { u64 address, end, state; u32 found, steps; } recent_access;
 
 static recent_access *recent_access_of(u64 address, u64 end) {
     enum { RECENT = 1 << 12 };
@@ -60,7 +60,7 @@ static recent_access *recent_access_of(u64 address, u64 end) {
     return a;
 }
 
-static int is_shared_block(const block *b) { return !b || b->users.many; }
+static int is_shared_block(const block *b) { return !b || b->users == SEVERAL; }
 
 static u32 find_blocks(const entry *e, u64 end) {
     const u32 number = number_at(e->address);
@@ -82,11 +82,9 @@ void find_users(const entry *e) {
     k->means_more = means_more(e);
     if (end == e->address) return;
     recent_access *a = recent_access_of(e->address, end);
-    const int is_cut = a->found && is_shared_block(block_of(a->found - 1)) && e->operation != OP_FREE;
-    if (is_cut) note_caller(e->caller);
-    else a->found = find_blocks(e, end);
-    k->accessed = a->found;
-    if (e->operation == OP_FREE) a->found = 0;
+    k->accessed = a->found ? a->found : find_blocks(e, end);
+    if (a->found) note_caller(e->caller);
+    else if (is_shared_block(block_of(k->accessed - 1)) && e->operation != OP_FREE) a->found = k->accessed;
 }
 
 /* ---- 2: cuts by what accessed a block before another thread did; what has one user alone is left ---- */
@@ -94,7 +92,7 @@ void find_earlier_cuts(void) {
     for (u64 i = 0, end = 0; i < record_count; i++) {
         if (i == end) end = next_records(i);
         const block *b = known[i].accessed ? block_of(known[i].accessed - 1) : 0;
-        if (b && !b->users.many) known[i].accessed = 0;
+        if (b && b->users != SEVERAL) known[i].accessed = 0;
         else if (b && i < b->shared_at) {
             const entry e = entry_at(i);
             cut_access(&e, end_of(&e));
@@ -143,29 +141,26 @@ static inline void share_run(const entry *e, const use *u, u32 first, u32 count)
 typedef struct { u32 first, count : 31, is_last : 1; } run;
 static VECTOR(run) runs;
 
-/* Adds pieces to the runs of an access, which begin at `from`. */
-static void add_to_runs(u64 from, const u32 *numbers, u32 count) {
+/* Adds neighbours to the runs of an access, which begin at `from`. */
+static void add_to_runs(u64 from, u32 first, u32 count) {
     run *last = runs.count > from ? &runs.at[runs.count - 1] : 0;
-    for (u32 k = 0; k < count; k++) {
-        if (last && last->first + last->count == numbers[k]) {
-            last->count++;
-            continue;
-        }
-        if (runs.count == MOST_PIECES) die("out of memory");
-        last = PUSH(runs);
-        *last = (run){.first = numbers[k], .count = 1};
+    if (last && last->first + last->count == first) {
+        last->count += count;
+        return;
     }
+    if (runs.count == MOST_PIECES) die("out of memory");
+    *PUSH(runs) = (run){.first = first, .count = count};
 }
 
 /* Those of an access, as known_record has them. */
 static u32 find_pieces(u64 at, u64 end) {
     const u64 from = runs.count;
-    u32 count, *numbers = pieces_at(&at, end, &count);
-    if (count == 1 && at == end) return *numbers;
-    add_to_runs(from, numbers, count);
+    u32 count, first = neighbours_at(&at, end, &count);
+    if (count == 1 && at == end) return first;
+    add_to_runs(from, first, count);
     while (at < end) {
-        numbers = pieces_at(&at, end, &count);
-        add_to_runs(from, numbers, count);
+        first = neighbours_at(&at, end, &count);
+        add_to_runs(from, first, count);
     }
     runs.at[runs.count - 1].is_last = 1;
     return MOST_PIECES + 1 + from;
@@ -284,8 +279,8 @@ static u64 piece_event(const entry *e, const use *u, u32 number, const char *ope
     return 0;
 }
 
-static int is_shared(const piece_use *p) { return whole_trace || (p->users.many && p->written); }
-static int has_others(some_threads s, u32 t) { return s.many || (s.first && s.first != t + 1); }
+static int is_shared(const piece_use *p) { return whole_trace || (p->users == SEVERAL && p->written); }
+static int has_others(some_threads s, u32 t) { return s && s != t + 1; }
 
 /* A read by the only thread that writes conflicts with nothing, and tells nothing. */
 static int may_have_events(const use *u, const piece_use *users) {

@@ -71,7 +71,7 @@ int form_bundles(void) {
     u64 uses = 0, of_bundles = 0;
     for (u32 number = 1; number <= piece_count(); number++) {
         piece_use *u = use_of_piece(number);
-        const int is_in_trace = u->users.many && u->written;
+        const int is_in_trace = u->users == SEVERAL && u->written;
         u->sum = is_in_trace && u->last != APART ? join_bundle(number, u->sum) : 0;
         uses += is_in_trace ? u->uses : 0;
     }

@@ -139,11 +139,11 @@ size_t name_by_use(u64 caller, const u64 use[6], char name[NAME_BYTES], u64 *beg
 
 int is_variable(const char *name, size_t length);            /* is a static variable named so? */
 
-/* Threads: the first, plus one, and whether there are others. */
-typedef struct { u32 first : 28, many : 1; } some_threads;
+/* Threads: the only one, plus one; 0 of none; or SEVERAL. */
+typedef u32 some_threads;
+#define SEVERAL (-1u)
 static inline void add_thread(some_threads *s, u32 t) {
-    if (!s->first) s->first = t + 1;
-    if (s->first != t + 1) s->many = 1;
+    if (*s != t + 1) *s = *s ? SEVERAL : t + 1;
 }
 
 /* memory.c: blocks and pieces. */
@@ -190,9 +190,10 @@ block *block_of(u32 number);
 void cut(u64 first, u64 second);
 u64 next_cut(u64 from, u64 end);       /* the first cut after `from`, or the end */
 u64 end_of_same(u64 from, u64 end);    /* up to there memory is of one block, or of none */
-/* The numbers, from 1, of the pieces that begin from a cut on before `end`, but at most those in the cut's
-   stretch of 64 bytes; with how many they are, and the next cut, or `end`. In the third pass; makes them. */
-u32 *pieces_at(u64 *cut, u64 end, u32 *count);
+/* The number, from 1, of the piece that begins at a cut; with how many pieces from there to `end` have
+   numbers that follow each other, but at most those in the cut's stretch of 64 bytes, and the next cut, or
+   `end`. In the third pass; makes them. */
+u32 neighbours_at(u64 *cut, u64 end, u32 *count);
 u32 piece_count(void);
 piece *piece_of(u32 number);
 piece_use *use_of_piece(u32 number);

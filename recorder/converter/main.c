@@ -8,6 +8,7 @@
 #include <errno.h>
 #include <fcntl.h>
 #include <getopt.h>
+#include <malloc.h>
 #include <stdio.h>
 #include <stdlib.h>
 #include <string.h>
@@ -272,6 +273,7 @@ static void write_page(u64 run_events) {
 }
 
 int main(int count, char **words) {
+    mallopt(M_MMAP_THRESHOLD, 1 << 20);    /* for good: else long arrays are copied when they grow */
     read_words(count, words);
     open_record(words[optind]);
     if (paths[STRIP]) strip_folder(paths[STRIP]);

@@ -138,7 +138,7 @@ block *meet_block(const entry *e) {
     if (++met > blocks.count) {        /* in the first pass */
         const int is_stack = e->operation == OP_START;
         *PUSH(blocks) = (block){e->address, size, e->caller, .stack = is_stack,
-                                .users.many = whole_trace, .thread = e->thread};
+                                .users = whole_trace ? SEVERAL : 0, .thread = e->thread};
         cut(from, end);
     }
     allot(from, end, met);
@@ -194,24 +194,21 @@ static RARE void make_pieces(u64 from, u64 cuts, u32 *slots) {
     }
 }
 
-static int has_empty(const u32 *slots, u32 count) {
-    u32 k = 0;
-    while (k < count && slots[k]) k++;
-    return k < count;
-}
-
-u32 *pieces_at(u64 *cut, u64 end, u32 *count) {
+u32 neighbours_at(u64 *cut, u64 end, u32 *count) {
     u64 from = *cut, stop = (from / 64 + 1) * 64;
     page *p = page_of(from, 1);
     if (!p->slots) make_slots(p);
     u64 cuts = p->stretches[from % PAGE / 64].cuts >> from % 64;
     if (end < stop) cuts &= (1ull << (end - from)) - 1;
-    u32 *slots = slot_of(p, from % PAGE);
-    *count = __builtin_popcountll(cuts);
-    range_steps += *count - 1;
-    if (has_empty(slots, *count)) make_pieces(from, cuts, slots);
-    *cut = end <= stop ? end : next_cut(from + 63 - __builtin_clzll(cuts), end);
-    return slots;
+    u32 *slots = slot_of(p, from % PAGE), k = 1;
+    if (!*slots) make_pieces(from, cuts, slots);
+    u64 rest = cuts & (cuts - 1);
+    for (; rest && slots[k] == *slots + k; k++) rest &= rest - 1;
+    *count = k;
+    range_steps += rest ? k : k - 1;
+    if (rest) *cut = from + __builtin_ctzll(rest);
+    else *cut = end <= stop ? end : next_cut(from + 63 - __builtin_clzll(cuts), end);
+    return *slots;
 }
 
 u32 piece_count(void) { return pieces.count; }

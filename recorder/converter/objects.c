@@ -404,7 +404,7 @@ void each_held(held_lock give, const char *operation) {
 static int orders_threads(const entry *e, const object *o) {
     const hold *h = e->operation == OP_UNLOCK ? hold_of(e->thread, key_of(o, own)) : 0;
     int is_of_several = e->operation == OP_LOCK ? orders_others.at[acquires_met++] : !h || h->orders;
-    return whole_trace || (o->threads.many && (is_of_several || o->foreign));
+    return whole_trace || (o->threads == SEVERAL && (is_of_several || o->foreign));
 }
 
 /* What an operation means for these, before and after its other events. */
@@ -477,7 +477,7 @@ static void atomic_events(const entry *e, object *o) {
     u64 caller = e->caller;
     int stores = e->operation == OP_ATOMIC_STORE, loads = e->operation == OP_ATOMIC_LOAD;
     int by_lock = is_by_lock(e) || (stores && gives(e));
-    if (o->threads.many) note_use(e, index_of(o), gives(e));
+    if (o->threads == SEVERAL) note_use(e, index_of(o), gives(e));
     if (!stores) read_value(e, o, by_lock, take_version);
     if (loads && acquires(e) && gives_all_on(o, t)) publish(o, o->version, t, caller);
     if (!loads) write_value(e, o);

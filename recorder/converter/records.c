@@ -118,14 +118,12 @@ u64 depth_inside(const entry *e) {
 }
 
 /* ---- whether the entries are good ---- */
-static int is_good_access(const struct record *r) { return r->what >> 54 & IS_RANGE || size_in(r) <= 16; }
-
-static int is_good(const struct record *r) {
+static inline int is_good(const struct record *r) {
     enum operation operation = operation_in(*r);
     if (operation <= OP_SIZE || operation >= OP_LATE || r->where >> 48 >= THREAD_NUMBERS) return 0;
     if (size_follows(r) && (operation_in(r[1]) != OP_SIZE || size_follows(r + 1) || size_in(r) >= MAX_SIZE))
         return 0;
-    if (is_access(r)) return is_good_access(r);
+    if (is_access(r)) return r->what >> 54 & IS_RANGE || size_in(r) <= 16;
     if (operation == OP_FRAME) return size_in(r) < MOST_FRAMES;
     if (operation == OP_CONTEXT) return !size_in(r);
     if (operation == OP_NAME) return size_in(r) == 0 || size_in(r) == NAME_PIECE;
@@ -135,7 +133,6 @@ static int is_good(const struct record *r) {
 /* The entry or the two at `r`, number i of `count`. Returns how many they are, or 0: they aren't whole. */
 static inline u64 check(const struct record *r, u64 i, u64 count) {
     const u64 are_two = is_of_two(*r);
-    if (is_access(r) && !are_two && is_good_access(r) && r->where >> 48 < own_numbers) return 1;   /* most */
     if (!r->what || (are_two && (i + 1 == count || !r[1].what))) return 0;
     const struct record *its = r + is_late(*r);
     if ((is_late(*r) && !is_good_late(r->where, *its, i)) || !is_good(its))
