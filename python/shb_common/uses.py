@@ -14,10 +14,16 @@ WORDS = b"r", b"w", b"a", b"f"
 OF_STACKS = b"bare", b"held", b"many"
 KINDS = b"by", b"under", b"reading", *OF_STACKS
 
-# The accesses of a variable at a location in one way: `word` is r, w, a (written atomically) or f (freed);
-# `local` the local that a variable on a stack was then, or nothing. `sums` has by kind how many there are of
-# each thread, lock or stack (by its number).
-Use = collections.namedtuple("Use", "word variable local location sums")
+
+class Use(collections.namedtuple("Use", "word variable local location sums")):
+    """The accesses of a variable at a location in one way: `word` is r, w, a (written atomically) or f
+    (freed); `local` the local that a variable on a stack was then, or nothing. `sums` has by kind how many
+    there are of each thread, lock or stack (by its number)."""
+
+    __slots__ = ()
+
+    def count(self):
+        return sum(self.sums[b"by"].values())
 
 
 class BadUses(Exception):

@@ -8,7 +8,7 @@ import collections
 from shb_common.uses import OF_STACKS
 from shb_common.variables import without_end
 from shb_common.words import Refused
-from shb_view.facts import Sites, sites_in
+from shb_view.facts import HOW_HELD, Used, add_to, used_in
 from shb_view.groups import name_parts
 from shb_view.held import Held, Operations, called
 from shb_view.trace import CHANGED, OPENS
@@ -86,7 +86,7 @@ class Counting:
         # any more), thread, word of `words.KINDS`, the names of the locks held (None where they aren't
         # counted), and the variable (not of a free).
         self.counts = collections.defaultdict(dict)
-        self.used = collections.defaultdict(Sites)  # the same by group, of the uses of a run
+        self.used = collections.defaultdict(Used)  # by group, of the trace or the run
         self.kinds = self.found = 0
         self.noted = {}  # by event
         self.held, self.operations = collections.defaultdict(Held), Operations(kinds.locks)  # by thread
@@ -113,6 +113,7 @@ class Counting:
         self.take_all(trace)
         if self.uses is not None:
             self.take_uses()
+        self.used.update((group, used_in(counts)) for group, counts in self.counts.items())
         if trace.count() != events or self.found != len(self.racing):
             raise Refused(CHANGED)
         self.see()
@@ -220,17 +221,24 @@ class Counting:
         of them count."""
         kinds, freed = self.access_kinds, {}
         groups = {kinds.in_trace(variable): group for variable, group in self.groups.items()}
-        for word, variable, local, location, sums in self.uses:
+        for use in self.uses:
+            word, variable, local, location, sums = use
             group = groups.get(variable)
             if group is None or kinds.locals.get(variable, local) != local and variable.startswith(b"stack."):
                 continue
             for kind in OF_STACKS:
                 for stack, count in sums[kind].items():
                     self.callers[variable, location][stack, kind == b"bare"] += count
+            use = use._replace(sums=with_names(sums, kinds.locks)) if kinds.locks else use
             if word != b"f":
-                self.used[group].at(variable, location).add(word, sums, kinds.locks)
+                self.used[group].add(use)
             elif freed.setdefault((group, location, name_parts(variable)["block"]), variable) == variable:
-                self.used[group].at(b"", location).add(word, sums, kinds.locks)
+                self.used[group].add(use._replace(variable=b""))
 
-    def uses_of(self, group):
-        return sites_in(self.counts[group]) if self.uses is None else self.used[group]
+
+def with_names(sums, locals):
+    """The sums of a use, with the names of locks on stacks."""
+    named = {kind: collections.defaultdict(int) for kind in HOW_HELD}
+    for kind, its in named.items():
+        add_to(its, sums[kind], locals)
+    return {**sums, **named}

@@ -4,10 +4,11 @@ group's."""
 
 import collections
 import functools
+import itertools
 import re
 
 from shb_common.result import text
-from shb_common.uses import KINDS
+from shb_common.uses import KINDS, Use
 from shb_common.words import counted
 from shb_view.groups import name_parts
 from shb_view.held import read_lock
@@ -17,6 +18,7 @@ from shb_view.words import Code, Own, listed, lock_name, place
 MOST_NAMED = 3  # lines in a sentence
 FLAG = "make it atomic if it is a flag or a counter; else "
 DIGITS = rb"[0-9]+"
+HOW_HELD = b"under", b"reading"  # how an access holds locks
 NUMBERS = rb"(?<=#)[0-9]+|(?<=\[)[0-9]+(?=\])"  # of a block, and of an element
 
 
@@ -81,32 +83,20 @@ class Site:
     def held(self):
         return sorted(lock for lock, count in self.guards.items() if count == self.total)
 
-    def add(self, word, sums, locals):
-        """Takes accesses, as `uses.Use` has them; `locals` names locks on stacks."""
-        by, count = sums[b"by"], sum(sums[b"by"].values())
+    def add(self, use, names):
+        """Takes a use; `names` has the locks that have another name here."""
+        by, count = use.sums[b"by"], use.count()
+        self.variables.add(use.variable)
         self.total += count
-        self.accesses[word] += count
+        self.accesses[use.word] += count
         add_to(self.threads, by, {})
-        add_to(self.locks, sums[b"under"], locals)
-        add_to(self.reading, sums[b"reading"], locals)
-        if word != b"r":
+        add_to(self.locks, use.sums[b"under"], names)
+        add_to(self.reading, use.sums[b"reading"], names)
+        if use.word != b"r":
             self.writers.update(by)
-            add_to(self.wrong, sums[b"reading"], locals)
-        self.bare += sum(sums[b"bare"].values())
-        self.unknown += sum(sums[b"many"].values())
-
-    def take(self, other, names):
-        """Takes what another one has; `names` has the locks that have another name here."""
-        self.variables |= other.variables
-        self.writers |= other.writers
-        self.total += other.total
-        self.bare += other.bare
-        self.unknown += other.unknown
-        add_to(self.accesses, other.accesses, {})
-        add_to(self.threads, other.threads, {})
-        add_to(self.locks, other.locks, names)
-        add_to(self.reading, other.reading, names)
-        add_to(self.wrong, other.wrong, names)
+            add_to(self.wrong, use.sums[b"reading"], names)
+        self.bare += sum(use.sums[b"bare"].values())
+        self.unknown += sum(use.sums[b"many"].values())
 
 
 def add_to(sums, others, names):
@@ -155,57 +145,53 @@ def blamed_of(fact, locations):
     return next(map(bytes, (*filter(known.__contains__, fact.tag), *more)), None)
 
 
-class Sites:
-    """How a group's variables are used: by location the sites of each, and those of frees, which
-    are of all."""
+class Used:
+    """How a group's variables are used: by variable its uses, as `uses.Use` has them; and by location those
+    that are of all, which are frees."""
 
     def __init__(self, variables=(), frees=()):
-        self.variables, self.frees = dict(variables), dict(frees)
+        self.variables, self.frees = collections.defaultdict(list, variables), dict(frees)
 
-    def at(self, variable, location):
-        """The site of a variable, or of frees for b"", at a location."""
-        sites = self.variables.setdefault(variable, {}) if variable else self.frees
-        if location not in sites:
-            sites[location] = Site(location)
-            sites[location].variables.add(variable)
-        return sites[location]
+    def add(self, use):
+        its = self.variables[use.variable] if use.variable else self.frees.setdefault(use.location, [])
+        its.append(use)
 
     def of(self, variable):
         """Those of one of the variables alone."""
-        return Sites({variable: self.variables.get(variable, {})}, self.frees)
+        return Used({variable: self.variables.get(variable, [])}, self.frees)
 
     def total(self):
-        return sum(site.total for its in (*self.variables.values(), self.frees) for site in its.values())
+        return sum(map(total_of, (*self.variables.values(), *self.frees.values())))
 
 
-def sites_in(counts):
-    """The sites of what a trace has of each kind, as `Counting.counts`."""
-    found = Sites()
+def total_of(uses):
+    return sum(use.count() for use in uses)
+
+
+def used_in(counts):
+    """The uses that a trace has, of each kind as `Counting.counts`; their locks are None where they aren't
+    counted."""
+    found = Used()
     for (location, thread, word, locks, variable), count in counts.items():
+        sums = {kind: {} for kind in KINDS}
+        sums[b"by"][thread] = count
+        if not locks:
+            sums[b"many" if locks is None else b"bare"][0] = count
+        for lock in locks or ():
+            shared = read_lock(lock)
+            sums[b"reading" if shared else b"under"][shared or lock] = count
         if count:
-            found.at(variable, location).add(word, sums_of(thread, locks, count), {})
+            found.add(Use(word, variable, b"", location, sums))
     return found
 
 
-def sums_of(thread, locks, count):
-    """Accesses of a kind, as `uses.Use` has them; `locks` is None where they aren't counted."""
-    sums = {kind: {} for kind in KINDS}
-    sums[b"by"][thread] = count
-    if not locks:
-        sums[b"many" if locks is None else b"bare"][0] = count
-    for lock in locks or ():
-        shared = read_lock(lock)
-        sums[b"reading" if shared else b"under"][shared or lock] = count
-    return sums
-
-
-def joined(uses):
-    """The uses of several groups of one object as those of one."""
-    found = Sites()
-    for one in uses:
+def joined(parts):
+    """The uses of several groups of one object as those of one, whose frees each of them may have."""
+    found = Used()
+    for one in parts:
         found.variables.update(one.variables)
-        for location, site in one.frees.items():
-            found.frees[location] = max(found.frees.get(location, site), site, key=lambda it: it.total)
+        for location, its in one.frees.items():
+            found.frees[location] = max(found.frees.get(location, its), its, key=total_of)
     return found
 
 
@@ -214,11 +200,13 @@ class Locks:
     `a[3].door`, a variable's own one is that which most of its accesses hold; it has one name for all
     variables."""
 
-    def __init__(self, uses, private):
+    def __init__(self, used, private):
         """`private` are locks on stacks that one thread alone uses: none of these is told."""
-        self.own, self.private, self.uses = {}, private, uses.variables
-        held = [(-count, variable, lock) for variable, sites in self.uses.items()
-                for lock, count in held_at(sites.values()).items()] if len(self.uses) > 1 else []
+        self.own, self.private = {}, private
+        self.locks = {variable: set().union(*(use.sums[how] for use in its for how in HOW_HELD))
+                      for variable, its in used.variables.items()}
+        held = [(-count, variable, lock) for variable, its in used.variables.items()
+                for lock, count in held_in(its).items()] if len(self.locks) > 1 else []
         for _, variable, lock in sorted(held):
             self.own.setdefault(alike(lock), {}).setdefault(variable, lock)
         self.named = collections.defaultdict(dict)  # by variable: its own locks, with their names
@@ -230,31 +218,25 @@ class Locks:
         """By variable: the lock of this name."""
         if isinstance(name, Own):
             return self.own[name]
-        return {variable: name for variable, sites in self.uses.items()
-                if any(name in site.locks or name in site.reading for site in sites.values())}
+        return {variable: name for variable, its in self.locks.items() if name in its}
 
 
-def held_at(sites):
+def held_in(uses):
     """How many accesses hold each lock, for reading or not."""
     found = collections.defaultdict(int)
-    for site in sites:
-        add_to(found, site.locks, {})
-        add_to(found, site.reading, {})
+    for sums in (use.sums[how] for use in uses for how in HOW_HELD):
+        add_to(found, sums, {})
     return found
 
 
-def sites_of(group, uses, private):
+def sites_of(group, used, private):
     """The lines that use a group's variables: racing ones first, then those that write, then by how often;
     and their locks."""
-    racing, locks, at = group.locations(), Locks(uses, private), collections.defaultdict(list)
-    for variable, its in (*uses.variables.items(), (b"", uses.frees)):
-        for location, site in its.items():
-            at[location].append((variable, site))
-    sites = {}
-    for location, its in at.items():
-        (variable, site), *others = its
-        is_same = not others and location not in racing and not locks.named[variable]
-        sites[location] = site if is_same else as_one(location, its, locks.named)
+    racing, locks, sites = group.locations(), Locks(used, private), {}
+    for use in itertools.chain(*used.variables.values(), *used.frees.values()):
+        if use.location not in sites:
+            sites[use.location] = Site(use.location)
+        sites[use.location].add(use, locks.named[use.variable])
     for pair in group.pairs:
         one, other = pair.locations
         for location, partner in {(one, other), (other, one)}:
@@ -266,14 +248,6 @@ def sites_of(group, uses, private):
     order = sorted(sites.values(), key=lambda site: (site.location is None, by_numbers(site.location or b"")))
     return (sorted(order, key=lambda site: (site.location not in racing, not site.writes(), -site.total)),
             locks)
-
-
-def as_one(location, its, named):
-    """The sites of variables at a line as a new one; `named` has the locks that have other names there."""
-    found = Site(location)
-    for variable, site in its:
-        found.take(site, named[variable])
-    return found
 
 
 def fact_of(sites, locks, whole, published=()):

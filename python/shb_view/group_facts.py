@@ -154,11 +154,11 @@ def part_of(group, names, kinds):
     return Group(tuple(pairs), tuple(dict.fromkeys(map(kinds.name, names))), tuple(names))
 
 
-def merged_groups(groups, uses_of, facts):
+def merged_groups(groups, used, facts):
     """The groups, those of one object as one where the same threads race in it and the same is missing."""
     found = {}
     for number, group in enumerate(groups):
-        one, thing = facts.of(group, uses_of(number)), object_of(group)
+        one, thing = facts.of(group, used[number]), object_of(group)
         racing = frozenset((thread, thread in site.writers) for site in one.sites if site.partners
                            for thread in site.threads)
         uses = tuple(pair.key()[:3] for pair in one.fact.pairs())

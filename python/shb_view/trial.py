@@ -47,15 +47,14 @@ def move_of(found, counting):
     sides = {(event, access.word) for race in gathered.races(found.group.names)
              for event, access in zip(race.events, race.accesses) if access.thread == creator}
     events, words = sorted({event for event, _ in sides}), {word for _, word in sides}
-    sites = [its.values() for its in found.uses.variables.values()]
     repeating = {one.thread for name in found.group.names for one in counting.again.get(name, ())}
-    if creator in repeating or not uses_once(sites, creator):
+    if creator in repeating or not uses_once(found.uses, creator):
         return None
     step, event = None, 0
     if words == {b"r"}:
         step = last_join(others, creator, counting.ends, events)
         event, where = step and step.event + 1, " after the join at "
-    elif words == {b"w"} and not repeating and all(uses_once(sites, other, False) for other in others):
+    elif words == {b"w"} and not repeating and all(uses_once(found.uses, other, False) for other in others):
         step = min((counting.begins[other] for other in others), key=lambda it: it.event)
         event, where = step.event, " before the thread's creation at "
     if not step:
@@ -77,10 +76,11 @@ def family_of(pairs, begins):
     return None
 
 
-def uses_once(sites, thread, may_write=True):
-    """Whether a thread uses each variable once at most. `sites` are those of each variable."""
-    writes = not may_write and any(thread in site.writers for its in sites for site in its)
-    return not writes and all(sum(site.threads.get(thread, 0) for site in its) <= 1 for its in sites)
+def uses_once(used, thread, may_write=True):
+    """Whether a thread uses each variable once at most."""
+    own = [[use for use in its if thread in use.sums[b"by"]] for its in used.variables.values()]
+    return (all(sum(use.sums[b"by"][thread] for use in its) <= 1 for its in own)
+            and (may_write or all(use.word == b"r" for its in own for use in its)))
 
 
 def last_join(others, creator, ends, events):

@@ -216,12 +216,12 @@ def make_sections(asked, kinds, made, trace, groups, unseen={}):
     try:
         counting.read(trace, made.events)
         facts = Facts(counting, "trace" if made.uses is None else "run")
-        found = merged_groups(groups, counting.uses_of, facts)
+        found = merged_groups(groups, counting.used, facts)
         trials = trials_of(found, facts, counting)
         if trials:
             left = still_racing(asked.shb, trace, list(trials.values()))
             found = after_trials(found, facts, trials, left,
-                                 lambda: merged_groups(groups, counting.uses_of, facts))
+                                 lambda: merged_groups(groups, counting.used, facts))
         found.sort(key=lambda it: (RANKS[it.fact.form], -(it.group.races() or it.uses.total())))
         sections = [make_section(it, counting, unseen) for it in found[:MOST_GROUPS]]
         if asked.has_windows:
