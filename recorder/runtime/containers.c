@@ -2,8 +2,7 @@
    their symbols, of the library's present layout, which its programs have in them. An insertion or removal
    writes the ends of a tree, whichever node it is of, for by the C++ standard it changes the container: a
    search or walk that nothing orders with it is a race. A step reads the node's own links; those of the nodes
-   that it passes aren't recorded. A node that is put in is new, and one that is taken out is freed. The
-   symbols are hidden from linkers: a C++ library that is linked into a program has its own. */
+   that it passes aren't recorded. A node that is put in is new, and one that is taken out is freed. */
 #include "hold.h"
 #include "libraries.h"
 #include "library.h"
@@ -16,12 +15,11 @@ static __attribute__((noinline)) void note_link(enum operation operation, const 
 }
 #define READS_LINK(link) note_link(OP_READ, &(link), caller)
 #define WRITES_LINK(link) note_link(OP_WRITE, &(link), caller)
-#define VERSIONED(version, name) __attribute__((symver(#name "@" #version)))
 #define HOOKED(version, type, name, parameters, arguments, ...) \
-    PUBLIC VERSIONED(version, name) type hooked_##name parameters { \
+    WRAPS_HIDDEN(version, type, name, parameters) { \
         uint64_t caller = CALLER; \
         if (others && instrumented(caller)) { __VA_ARGS__; } \
-        return REAL_OF_NAME(#name, __typeof__(&hooked_##name)) arguments; \
+        return REAL_HIDDEN(name) arguments; \
     }
 
 /* ---- trees ---- */
@@ -157,11 +155,11 @@ APART void changed_end(string_call *its, string *s) { changed(its, s, least(its-
 
 #define ARGUMENTS argument a, argument b, argument c, argument d, argument e, argument f
 #define STRING(version, name, before, after) \
-    PUBLIC VERSIONED(version, name) two_words hooked_##name(ARGUMENTS) { \
+    WRAPS_HIDDEN(version, two_words, name, (ARGUMENTS)) { \
         string_call its = {.caller = CALLER}; \
         int seen = is_seen(its.caller); \
         if (seen) { before; } \
-        two_words r = REAL_OF_NAME(#name, __typeof__(&hooked_##name))(a, b, c, d, e, f); \
+        two_words r = REAL_HIDDEN(name)(a, b, c, d, e, f); \
         if (seen) { after; } \
         return r; \
     }

@@ -195,7 +195,7 @@ SENDS(sendto, SENDS_BYTES)
 SENDS(sendmmsg, struct mmsghdr *m = p;
       for (unsigned i = 0; i < least((unsigned)n, IOV_MAX); i++)
           note_message(seen, OP_READ, &m[i].msg_hdr, MOST_BYTES))
-SENDS(eventfd_write, )
+SENDS(eventfd_write, ) SENDS(shutdown, )
 PUBLIC int epoll_ctl(int f, int o, int g, struct epoll_event *e) {
     note_descriptor(OP_POST, data_of(f), CALLER);
     return REAL(epoll_ctl)(f, o, g, e);

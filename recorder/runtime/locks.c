@@ -2,6 +2,7 @@
 #include "ordering.h"
 #include <semaphore.h>
 #include <threads.h>
+#include <unwind.h>
 
 /* BEGINS: makes an object; while there are threads that is a write of it, too. */
 #define BEGINS(name, operation, size) \
@@ -103,7 +104,8 @@ PUBLIC int pthread_barrier_wait(pthread_barrier_t *b) {
 
 /* What was done by here comes before what the next thread does that takes it, as with a store and a load. */
 static void note_atomic(enum operation operation, const void *p, uint64_t size, uint64_t caller) {
-    int order = operation == OP_ATOMIC_LOAD ? __ATOMIC_ACQUIRE : __ATOMIC_RELEASE;
+    int order = operation == OP_ATOMIC_LOAD ? __ATOMIC_ACQUIRE
+        : operation == OP_ATOMIC_STORE ? __ATOMIC_RELEASE : __ATOMIC_ACQ_REL;
     if (others) note_bytes(MAY_YIELD, operation, p, size | order << ATOMIC_SIZE_BITS, caller);
 }
 
@@ -183,4 +185,23 @@ PUBLIC void _ZNSt13__future_base13_State_baseV211_Make_ready6_M_setEv(value_at_e
     REAL(_ZNSt13__future_base13_State_baseV211_Make_ready6_M_setEv)(value);
     sets_status = value->function;
     value->function = comes_to_its_end;
+}
+
+/* of C++: exceptions. The C++ library counts the users of one, in a word before it: each exception_ptr, and
+   each throw until its last handler ends. What a user did comes before what the last one does, who destroys
+   it. A throw has its exception behind it; that of rethrow_exception has the address before it. */
+enum { COUNT_BEFORE = 128, ADDRESS_BEFORE = 80, AGAIN = 1 };
+#define THROWN 0x474e5543432b2b00u     /* "GNUCC++" */
+static void ends_use(const char *exception, uint64_t caller) {
+    note_atomic(OP_ATOMIC_UPDATE, exception - COUNT_BEFORE, sizeof(int), caller);
+}
+WRAPS_HIDDEN(CXXABI_1.3.13, void, _ZNSt15__exception_ptr13exception_ptr10_M_releaseEv, (const char **its)) {
+    if (*its) ends_use(*its, CALLER);
+    REAL_HIDDEN(_ZNSt15__exception_ptr13exception_ptr10_M_releaseEv)(its);
+}
+WRAPS_HIDDEN(GCC_3.0, void, _Unwind_DeleteException, (struct _Unwind_Exception *thrown)) {
+    uint64_t way = thrown->exception_class - THROWN;
+    if (!way) ends_use((const char *)(thrown + 1), CALLER);
+    if (way == AGAIN) ends_use(*(const char **)((char *)thrown - ADDRESS_BEFORE), CALLER);
+    REAL_HIDDEN(_Unwind_DeleteException)(thrown);
 }

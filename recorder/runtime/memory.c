@@ -1,6 +1,7 @@
 /* Functions that give, take, copy or fill memory. */
 #include "runtime.h"
 #include <dlfcn.h>
+#include <sys/shm.h>
 
 void *__libc_calloc(size_t, size_t), *__libc_realloc(void *, size_t), *__libc_memalign(size_t, size_t);
 
@@ -74,6 +75,12 @@ PUBLIC void *mmap(void *at, size_t n, int protection, int flags, int f, off_t of
     return p == MAP_FAILED || protection == PROT_NONE ? p : allocated(p, n, CALLER);
 }
 PUBLIC void *mmap64(void *, size_t, int, int, int, off_t) __attribute__((alias("mmap")));
+
+PUBLIC void *shmat(int id, const void *at, int flags) {
+    void *p = (void *)syscall(SYS_shmat, id, at, flags);
+    struct shmid_ds segment;
+    return p == (void *)-1 || shmctl(id, IPC_STAT, &segment) ? p : allocated(p, segment.shm_segsz, CALLER);
+}
 
 WRAPS(void *, mremap, (void *old, size_t old_size, size_t size, int flags, word fixed)) {
     char *p = (char *)syscall(SYS_mremap, old, old_size, size, flags, flags & MREMAP_FIXED ? fixed : 0);

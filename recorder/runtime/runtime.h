@@ -302,6 +302,10 @@ static inline void *function_of_name(struct forwarded *f) {
     type as_##name parameters __asm__(#name); \
     PUBLIC type as_##name parameters
 #define REAL_AS(name) REAL_OF_NAME(#name, __typeof__(&as_##name))
+/* One that linkers don't see: a C++ library that is linked into a program has its own. */
+#define WRAPS_HIDDEN(version, type, name, parameters) \
+    PUBLIC __attribute__((symver(#name "@" #version))) type hooked_##name parameters
+#define REAL_HIDDEN(name) REAL_OF_NAME(#name, __typeof__(&hooked_##name))
 /* Its arguments, numbers and pointers, are words, whatever their types are: it gets as many as any of its
    family has, and hands all on. Of a word that is an int the upper half may be anything. */
 typedef uint64_t word;

@@ -11,7 +11,7 @@
 #include <sys/stat.h>
 #include <unistd.h>
 
-enum { WAYS = 7 };
+enum { WAYS = 8 };
 static atomic_int got;                                      /* it orders nothing */
 static int data[WAYS], reply, racy, ends[2], copies[3], streams[2];
 static char folder[] = "/tmp/descriptorsXXXXXX";
@@ -48,6 +48,8 @@ static void *work(void *unused) {
     data[6] = 1;
     fprintf(out, "%d\n", 7);
     fclose(out);
+    data[7] = 1;
+    shutdown(f, SHUT_WR);                                    /* the other end reads that it has ended */
     return reply == 1 ? 0 : &data;
 }
 
@@ -86,6 +88,8 @@ int main(void) {
     sum += data[5];
     if (fscanf(in, "%d", &number) != 1 || number != 7) return 1;
     sum += data[6];
+    if (read(f, line, 1)) return 1;
+    sum += data[7];
     pthread_join(t, &failed);
     unlink("fifo");
     if (chdir("/") || rmdir(folder)) return 1;
