@@ -40,7 +40,8 @@
 
 #define USED_BY_ALL (~0u)              /* an owner that no thread is */
 #define MAX_BLOCK (1ull << 32)         /* a longer one is no new variables, as the converter has it */
-enum { OVERFLOWS = 8 };                /* after so many an older use makes room */
+/* After so many uses without room one gets it, if the cell has no table, and so many cells are looked at. */
+enum { OVERFLOWS = 8, LOOKS = 64 };
 /* each thread brings new ones of readers */
 enum { MOST_USES = USE_SLOTS / 4 * 3, MOST_OF_READERS = MOST_USES / 2 };
 enum { CHUNK_BYTES = 4 << 20, CHUNKS = 1 << 14 };            /* memory is asked for in chunks */
@@ -279,27 +280,42 @@ static void put_held(const cell *c, key key, uint64_t address) {
     put_late((struct record){first | (uint64_t)number << 48, use->what ^ byte << FIRST_BYTE}, *key.word);
 }
 
-static void begin_phase(cell_page *page, cell *c, uint64_t address, uint32_t serial, uint16_t number) {
+/* Its owner stays, and the phase. */
+static void put_keys(cell *c, uint64_t address) {
     for (int k = 0, count = key_count(c); k < count; k++)
         if (is_held(key_at(c, k))) put_held(c, key_at(c, k), address);
     free_table(c);
+    memset(c->uses, 0, sizeof c->uses);
+    c->used = 0;
+}
+
+static void begin_phase(cell_page *page, cell *c, uint64_t address, uint32_t serial, uint16_t number) {
+    put_keys(c, address);
     int is_first = !c->owner && !is_freed(page, address);
-    *c = (cell){.owner = serial, .number = number, .is_first = is_first};
+    *c = (cell){.owner = serial, .number = number, .is_first = is_first, .is_only_read = 1};
     page->used[number_in_page(address) / 64] |= bit_of(address);
     page->is_whole = 0;
 }
 
-/* Now and then it takes the place of an older one. Does it? */
-static int replace_key(cell *c, uint64_t address, uint32_t use, uint64_t word) {
+/* The next cell that has a table of this size gives it back: most cells are used seldom. */
+static void take_table(int log) {
+    static uint64_t at;
+    for (int looks = 0; looks < LOOKS << log && !free_tables[log]; looks++) {
+        cell *c = find_cell(at);
+        if (c && c->log_lines == log) put_keys(c, at);
+        at += c ? GRAIN : cell_regions[at >> REGION_BITS] ? CELL_PAGE : 1 << REGION_BITS;
+        at %= CELL_ADDRESSES;
+    }
+}
+
+/* Now and then it gets one, in a table of another cell's or in the place of the cell's others. The larger
+   the table the seldomer: what is put for it is bounded by the uses without room. */
+static uint64_t *make_key(cell *c, uint64_t address, uint32_t use, uint64_t word) {
     static unsigned overflows;
-    if (++overflows % OVERFLOWS) return 0;
-    unsigned which = overflows / OVERFLOWS % (c->log_lines ? KEYS_OF_LINE : KEYS);
-    key old = c->log_lines ? key_in(line_of_use(c, use), which) : key_at(c, which);
-    if (!*old.use) return 0;
-    if (is_held(old)) put_held(c, old, address);
-    *old.use = use;
-    *old.word = word;
-    return 1;
+    if (++overflows % (OVERFLOWS << c->log_lines)) return 0;
+    if (c->log_lines < MOST_LOG) take_table(c->log_lines + 1);
+    if (!grow_keys(c)) put_keys(c, address);
+    return insert_key(c, use, word);
 }
 
 /* Is a use of the cell's owner or of one of its readers held back? Right after the same one, with nothing
@@ -311,7 +327,7 @@ static int hold_in_cell(cell *c, uint64_t address, cell_use use, uint64_t word) 
     key found = find_key(c, number);
     if (!is_used(found)) {             /* the first of this kind, in this phase or since it was forgotten */
         word = c->is_first ? word_after(0, word) : NO_POSITION;
-        return (add_key(c, found, number, word) || replace_key(c, address, number, word)) && c->is_first;
+        return (add_key(c, found, number, word) || make_key(c, address, number, word)) && c->is_first;
     }
     if (is_right_behind(*found.word, word)) return IS_HELD_ALREADY;
     *found.word = word_after(*found.word, word);
@@ -323,10 +339,7 @@ uint64_t *word_of_use(cell *c, uint64_t address, uint32_t serial, uint16_t numbe
     uint32_t slot = slot_of_use(use.what, use.from);
     if (!is_same(cell_uses[slot], use)) return 0;
     cell_page *page = c->owner ? 0 : page_at(address, 0);
-    if (!c->owner && !is_freed(page, address)) {
-        begin_phase(page, c, address, serial, number);
-        c->is_only_read = 1;
-    }
+    if (!c->owner && !is_freed(page, address)) begin_phase(page, c, address, serial, number);
     key found = find_key(c, slot);
     if (is_used(found)) return found.word;
     if (c->owner != serial || !c->is_first || (is_full(c) && !has_table(c->log_lines + 1))) return 0;
@@ -372,10 +385,7 @@ static int hold_in_one(uint32_t serial, struct record r, uint64_t kind, uint64_t
     if (!c) return 0;
     cell_use use = {what_of_use(r.what, address), kind | reader_of(serial, r.where >> 48)};
     if (is_for_readers(c, serial, use)) return hold_in_cell(c, address, use, word);
-    if (c->owner != serial) {
-        begin_phase(page, c, address, serial, r.where >> 48);
-        c->is_only_read = 1;
-    }
+    if (c->owner != serial) begin_phase(page, c, address, serial, r.where >> 48);
     use.from = kind;
     return hold_in_cell(c, address, use, word);
 }

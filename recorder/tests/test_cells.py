@@ -120,8 +120,8 @@ CASES = {  # what a record has behind FORKS, and what is left of it
          late(4, 1, read(1, 0x201), 4), write(2, 0x205)]),
     "more uses than keys": (
         [*OTHER_USES, write(2, 0x204)],
-        [*OTHER_USES[7:14], late(2, 2, OTHER_USES[1]), late(2, 1, OTHER_USES[0]), late(9, 1, OTHER_USES[14]),
-         *[late(2, k, OTHER_USES[k - 1]) for k in range(3, 8)], write(2, 0x204)]),
+        [*OTHER_USES[7:14], *[late(2, k, OTHER_USES[k - 1]) for k in range(1, 8)], late(9, 1, OTHER_USES[14]),
+         write(2, 0x204)]),
     "an atomic access": (
         [write(2, 0x204), read(1, 0x201), entry(2, "ATOMIC_STORE", X, 0x205, 4), read(1, 0x201),
          read(1, 0x201)],
@@ -256,8 +256,9 @@ FAULTS = {  # to plant: the file, what stands there, and what in its place
     "calls from two places are one use": ("cells.c", "    use.from = kind;\n", "    use.from = 0;\n"),
     "calls from two places are one use of a reader": (
         "cells.c", "kind | reader_of(serial, r.where >> 48)};", "reader_of(serial, r.where >> 48)};"),
-    "a use that makes room isn't recorded": ("cells.c", "    if (is_held(old)) put_held(c, old, address);\n",
-                                             ""),
+    "a use that makes room isn't recorded": (
+        "cells.c", "if (!grow_keys(c)) put_keys(c, address);",
+        "if (!grow_keys(c)) c->uses[0] = c->used = 0;"),
     "atomic accesses end no phase": ("cells.c", "operation <= OP_ATOMIC_UPDATE && is_in_one",
                                      "is_plain(operation) && is_in_one"),
     "atomic accesses of several cells end no phase": ("cells.c", "is_atomic(operation) ? !is_in_one(address, "
@@ -289,7 +290,7 @@ FAULTS = {  # to plant: the file, what stands there, and what in its place
                               "bits"),
     "a page forgets whose it is": ("cells.c", "if (page->is_whole && page->owner == serial) return;",
                                    "if (page->is_whole) return;"),
-    "a page is whole for ever": ("cells.c", "    page->is_whole = 0;\n}\n\n/* Now", "}\n\n/* Now"),
+    "a page is whole for ever": ("cells.c", "    page->is_whole = 0;\n}\n\n/* The next", "}\n\n/* The next"),
     "a new block leaves its page whole": ("cells.c", "        if (page->is_whole) page->is_whole = 0;\n", ""),
     "a thread with the number of a joined one is the same": (
         "hold_back.c", "serials[address] = ++last_serial", "last_serial++"),
@@ -299,9 +300,8 @@ FAULTS = {  # to plant: the file, what stands there, and what in its place
     "a write leaves a phase of reads": ("cells.c", "    if (!is_read(use.what)) c->is_only_read = 0;\n", ""),
     "a free or a range leaves a phase of reads": ("cells.c", "    c->is_only_read = 0;\n}", "}"),
     "a cell that was freed begins with a first phase in a quick hook": (
-        "cells.c", "if (!c->owner && !is_freed(page, address)) {", "if (!c->owner) {\n        "
-                                                                   "page->freed[number_in_page(address) / "
-                                                                   "64] = 0;"),
+        "cells.c", "if (!c->owner && !is_freed(page, address)) begin_phase(page",
+        "if (!c->owner) page->freed[number_in_page(address) / 64] = 0, begin_phase(page"),
     "a use is new in a quick hook of a later phase": ("cells.c", "!c->is_first || (is_full(c)",
                                                       "(is_full(c)"),
     "a write in a quick hook leaves a phase of reads": ("cells.c", "    c->is_only_read &= "
@@ -323,6 +323,9 @@ FAULTS = {  # to plant: the file, what stands there, and what in its place
         "*found.word = (*found.word & ~POSITIONS) | (word & POSITIONS) | IS_REPEATED"),
     "a position serves once more behind others": ("cells.c", "is_right_behind(*found.word, word)",
                                                   "*found.word"),
+    "a use whose table is taken isn't recorded": (
+        "cells.c", "c->log_lines == log) put_keys(c, at);", "c->log_lines == log) { free_table(c); *c = "
+                   "(cell){.owner = c->owner, .number = c->number, .is_first = c->is_first}; }"),
     "each use is repeated": ("cells.h", "? word : word & ~IS_REPEATED;", "? word : word;"),
     "no use is repeated": ("cells.h", "? word : word & ~IS_REPEATED;", "? word & ~IS_REPEATED : word & "
                            "~IS_REPEATED;"),
@@ -393,19 +396,25 @@ def split(entries):
     return [entries[k:k + 16] for k in range(0, len(entries), 16)]
 
 
+NO_TABLES = [("log <= MOST_LOG ? new_table(log) : 0", "0")]
+FEW_TABLES = [("memory_of_keys = most_bytes / 2", "memory_of_keys = 64"),
+              ("static uint64_t at;", f"uint64_t at = {X};")]  # the one to take is soon found
+
+
 class Cells(recorder.Case):
     def program(self, folder, keys, plant=("", "", ""), has_tables=False):
-        """The program that leaves of a record what cells of so many keys leave, and tables of more."""
+        """The program that leaves of a record what cells of so many keys leave, and a few tables of more."""
         folder.mkdir()
         for path in (RUNTIME / "cells.c", RUNTIME / "cells.h", recorder.HERE / "hold_back.c"):
             text = path.read_text().replace("../record.h", str(recorder.SOURCES / "record.h"))
             if path.name == plant[0]:
                 self.assertEqual(text.count(plant[1]), 1)
                 text = text.replace(plant[1], plant[2])
-            text = text if has_tables else text.replace("log <= MOST_LOG ? new_table(log) : 0", "0")
+            for old, new in FEW_TABLES if has_tables else NO_TABLES:
+                text = text.replace(old, new)
             (folder / path.name).write_text(text.replace("enum { KEYS = 2 }", f"enum {{ KEYS = {keys} }}"))
-        recorder.must(recorder.call("gcc", "-g", "-O1", "-w", folder / "cells.c", folder / "hold_back.c",
-                                    "-o", folder / "hold_back"))
+        recorder.must(recorder.call("gcc", "-w", folder / "cells.c", folder / "hold_back.c", "-o",
+                                    folder / "hold_back"))
         return folder / "hold_back"
 
     def left(self, program, entries):
@@ -462,6 +471,18 @@ class Cells(recorder.Case):
                 seed)
             found += len(marked)
         self.assertGreater(found, 500)
+
+    def test_uses_without_room(self):
+        """Cells whose uses are made once have all tables, when one is used again and again at six places. It
+        gets theirs, and of the others no use is lost."""
+        full = "cells.c", "memory_of_keys = most_bytes / 2", "memory_of_keys = 768"
+        program, cold = self.program(self.folder / "full", 2, full, True), [X + 8 * k for k in range(8)]
+        once = [write(1, 0x200 + k, cold[cell]) for cell in range(8) for k in range(4 if cell % 2 else 8)]
+        again = [write(1, 0x300 + k, X + 64) for k in range(6)] * 1000
+        others = [write(2, 0x400, address) for address in cold]
+        left = split(self.left(program, FORKS + once + again + others))
+        self.assertLess(len(left), len(again) // 20)
+        self.assertLessEqual(set(once), set(left))
 
     def test_each_fault_is_found(self):
         whole = {}
