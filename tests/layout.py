@@ -5,7 +5,9 @@ Each crate is formatted in a copy. `rt ci` refuses one that isn't, but only once
 Ends with the line 'N passed, N failed'.
 """
 
+import concurrent.futures
 import filecmp
+import itertools
 import pathlib
 import re
 import shutil
@@ -64,8 +66,9 @@ def main():
     with tempfile.TemporaryDirectory() as room:
         shutil.copy(ROOT / "crates.txt", room)
         copies = pathlib.Path(room) / "crates"
-        for crate in crates:
-            wrong = misplaced(crate, copies)
+        with concurrent.futures.ThreadPoolExecutor() as pool:
+            found = [*pool.map(misplaced, crates, itertools.repeat(copies))]
+        for wrong in found:
             failed += bool(wrong)
             passed += not wrong
             for what in wrong:

@@ -136,9 +136,9 @@ class Fix(program.Case):
     def test_a_long_trace_through_a_pipe(self):
         """In less memory than its events take. The release in its last line needs an acquire
         before the first."""
-        count = 300000
+        count = 75000  # kept they would take twice as much
         log = b"main|fork(T)|1\n" + b"T|w(x)|2\n" * count + b"main|rel(door)|3\n"
-        most = 64 << 20
+        most = 16 << 20
         ran = subprocess.run([sys.executable, COMMAND], input=log, capture_output=True,
                              timeout=program.SECONDS,
                              preexec_fn=lambda: resource.setrlimit(resource.RLIMIT_DATA, (most, most)))

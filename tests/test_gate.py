@@ -244,11 +244,11 @@ class Records(side_by_side.Case):
         }
         self.assertEqual({line: kit.built_in(line) for line in lines}, lines)
 
-    def test_about_a_tenth_is_drawn_and_each_commit_draws_others(self):
-        edits = [self.root / "crates" / "high" / "must-fail" / f"f.{number}.edit" for number in range(1000)]
-        drawn = [{edit for edit in edits if record.is_drawn(commit, edit)} for commit in ("a", "b")]
-        self.assertTrue(all(60 < len(it) < 140 for it in drawn))
-        self.assertNotEqual(*drawn)
+    def test_each_edit_is_drawn_by_a_tenth_of_the_commits(self):
+        edits = [*range(336)]
+        drawn = {tuple(record.drawn(f"{number:040x}", edits)) for number in range(1000)}
+        self.assertEqual(sorted(edit for one in drawn for edit in one), edits)
+        self.assertTrue(all(32 <= len(one) <= 34 for one in drawn))
 
     def test_a_record_is_read_as_written(self):
         path = self.root / "sums"

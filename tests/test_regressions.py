@@ -27,7 +27,7 @@ class Regressions(program.Case):
         lines = [line.partition(" ")[::2] for line in (case / "case").read_text().splitlines()]
         [words], [status] = ([rest for word, rest in lines if word == wanted] for wanted in ("run", "status"))
         command, *words = words.replace("OUT", f"{self.folder}/out-{case.name}").split(" ")
-        ran = subprocess.run([sys.executable, "-B", COMMANDS[command], *words], cwd=folder,
+        ran = subprocess.run([sys.executable, COMMANDS[command], *words], cwd=folder,
                              env={**os.environ, "SHB": str(program.PATH)},
                              stdout=subprocess.PIPE, stderr=subprocess.STDOUT, timeout=program.SECONDS)
         said = ran.stdout.decode()

@@ -776,7 +776,7 @@ class Waiting(program.Case):
         self.addCleanup(setattr, standard, "WAIT", wait)
         terminal = self.terminal()
         with contextlib.redirect_stderr(terminal):
-            status = command.main([str(EXAMPLES / "places.std")], fake)
+            status = command.main(["--shb", str(fake), str(EXAMPLES / "places.std")])
         self.assertEqual(status, 2)
         self.assertRegex(terminal.getvalue(), r"\A\r\x1b\[Kshb-view: reading the report "
                                               r"\d+%.*\r\x1b\[Kshb-view: line 26 of the report is "
@@ -787,7 +787,8 @@ class Waiting(program.Case):
         self.addCleanup(setattr, standard, "WAIT", wait)
         terminal, out = self.terminal(), io.TextIOWrapper(io.BytesIO(), "utf-8")
         with contextlib.redirect_stderr(terminal), contextlib.redirect_stdout(out):
-            self.assertEqual(command.main([str(EXAMPLES / "places.std")], program.PATH), 0)
+            words = "--shb", str(program.PATH), str(EXAMPLES / "places.std")
+            self.assertEqual(command.main(words), 0)
         self.assertRegex(terminal.getvalue(), r"\A\r\x1b\[Kshb-view: reading the report \d+%.*\r\x1b\[K\Z")
 
     def test_nothing_is_said_in_the_first_second(self):

@@ -140,7 +140,7 @@ exec REAL "$@"
 
     def test_a_name_like_an_option(self):
         trace = self.file(TRACE.read_bytes(), "-t.std")
-        answer = subprocess.run([sys.executable, "-B", PYTHON / "shb-view", "--", "-t.std"], cwd=self.folder,
+        answer = subprocess.run([sys.executable, PYTHON / "shb-view", "--", "-t.std"], cwd=self.folder,
                                 env=settings(),
                                 capture_output=True, timeout=program.SECONDS)
         self.assertEqual((answer.returncode, answer.stderr), (0, b""))
@@ -271,7 +271,7 @@ class Files(Fake):
     def test_a_page_that_is_too_long_for_the_disk(self):
         """Here for a limit of the shell; the fault names the page."""
         page = self.file(b"old", "page.html")
-        words = [sys.executable, "-B", str(PYTHON / "shb-view"), "--html", str(page), str(TRACE)]
+        words = [sys.executable, str(PYTHON / "shb-view"), "--html", str(page), str(TRACE)]
         script = 'ulimit -f 4; exec "$@"'  # blocks of 512 or 1,024 bytes: less than the style alone
         answer = subprocess.run(["sh", "-c", script, "sh", *words], env=settings(), capture_output=True,
                                 timeout=program.SECONDS)
@@ -334,7 +334,7 @@ class Statuses(Fake):
             self.assertEqual(run([TRACE], stdout=closed)[::2], (2, b""))
 
     def test_closed_standard_files(self):
-        words = [sys.executable, "-B", str(PYTHON / "shb-view")]
+        words = [sys.executable, str(PYTHON / "shb-view")]
 
         def closed(script, *more):
             return subprocess.run(["sh", "-c", script, "sh", *words, *map(str, more)], env=settings(),
@@ -358,7 +358,7 @@ class Statuses(Fake):
         told to ignore it."""
         started = self.folder / "started"
         fake = self.fake(f"touch {started}; exec sleep 20\n")
-        ran = subprocess.Popen([sys.executable, "-B", PYTHON / "shb-view", "--shb", fake, TRACE],
+        ran = subprocess.Popen([sys.executable, PYTHON / "shb-view", "--shb", fake, TRACE],
                                stdout=subprocess.PIPE,
                                stderr=subprocess.PIPE,
                                preexec_fn=lambda: signal.signal(signal.SIGINT, signal.SIG_DFL))

@@ -80,7 +80,7 @@ def settings(**more):
 
 def run(words, command=PYTHON / "shb-view", **how):
     how = {"stdout": subprocess.PIPE, "stderr": subprocess.PIPE, "env": settings(), **how}
-    ran = subprocess.run([sys.executable, "-B", command, *words], timeout=program.SECONDS, **how)
+    ran = subprocess.run([sys.executable, command, *words], timeout=program.SECONDS, **how)
     return program.Answer(ran.returncode, ran.stdout, ran.stderr)
 
 

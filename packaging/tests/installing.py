@@ -14,6 +14,8 @@ HERE = pathlib.Path(__file__).resolve().parent
 TOP = HERE.parents[1]
 SHB = TOP / "crates" / "shb" / "out" / "shb"
 SECONDS = 600  # after so long a command hangs, also where proofs run beside it
+os.environ.pop("PYTHONPYCACHEPREFIX", None)  # what is installed has its compiled modules beside it
+AS_FOR_USERS = {"CC": "cc", "MAKEFLAGS": ""}
 PARTS = ("Makefile", "build.sh", "README.md", "CHANGELOG.md", "SECURITY.md", "CITATION.cff", "docs",
          "examples", "packaging", "python", "recorder")
 
@@ -74,8 +76,9 @@ def compiler():
 
 
 def environment(**settings):
-    """What installs has this environment. `CC="cc"` compiles all anew."""
-    return {**os.environ, "CC": compiler(), **settings}
+    """What installs has this environment: the recorder isn't optimised as a whole, which would be done again
+    for each prefix. With AS_FOR_USERS it is compiled as users compile it."""
+    return {**os.environ, "CC": compiler(), "MAKEFLAGS": "LTO=", **settings}
 
 
 def make(folder, what, *words, **settings):
@@ -102,8 +105,8 @@ def dist(copy, **settings):
 
 @functools.lru_cache(maxsize=None)
 def packaged():
-    """A copy of the repository with its package, and the package unpacked."""
+    """A copy of the repository with its package, and the package unpacked: as it is made for users."""
     copy = copy_of_repository(room() / "copy")
-    package = dist(copy)
+    package = dist(copy, **AS_FOR_USERS)
     call("tar", "-xf", package, "-C", room())
     return copy, package, room() / package.name[:-len(".tar.xz")]

@@ -39,7 +39,7 @@ for folder in usr var; do
     mkdir "$1/$folder" "$1/$folder-work"
     mount -t overlay overlay -o "lowerdir=/$folder,upperdir=$1/$folder,workdir=$1/$folder-work" "/$folder"
 done
-dpkg --install "$2" > /dev/null
+dpkg --no-triggers --install "$2" > /dev/null
 cd "$3"
 shift 3
 exec "$@"

@@ -24,7 +24,7 @@ class Package(installing.Case):
                 os.utime(path, (1, 1))
         old = os.umask(0o077)
         self.addCleanup(os.umask, old)
-        second = installing.dist(other, CC="cc", TZ="Asia/Tokyo", LC_ALL="C", COLUMNS="150",
+        second = installing.dist(other, **installing.AS_FOR_USERS, TZ="Asia/Tokyo", LC_ALL="C", COLUMNS="150",
                                  PYTHONHASHSEED="7", TMPDIR=str(self.folder))
         self.assertEqual(package.name, second.name)
         self.assertEqual(package.read_bytes(), second.read_bytes())
@@ -176,7 +176,8 @@ class Package(installing.Case):
                      "python/shb_mine/part.py"):
             (copy / name).parent.mkdir(exist_ok=True)
             (copy / name).write_text("no C, no Python")
-        self.assertEqual(installing.dist(copy).read_bytes(), installing.packaged()[1].read_bytes())
+        self.assertEqual(installing.dist(copy, **installing.AS_FOR_USERS).read_bytes(),
+                         installing.packaged()[1].read_bytes())
 
     def test_a_changed_file_is_refused(self):
         copy = self.clone()

@@ -35,15 +35,6 @@ class Block(typing.NamedTuple):
         return self.at // GRAIN <= at // GRAIN <= (self.at + self.size - 1) // GRAIN
 
 
-class Access(typing.NamedTuple):
-    """`kind` is r, w, or of an atomic access l (load) or a (store or update)."""
-
-    thread: int
-    time: int
-    kind: str
-    place: int
-
-
 def take(clock, other):
     for thread, time in other.items():
         clock[thread] = max(clock.get(thread, 0), time)
@@ -78,7 +69,7 @@ class Analysis:
         self.threads, self.count = {0: 0}, 1  # by number: the thread that has it now
         self.clocks = collections.defaultdict(dict)
         self.blocks, self.accesses, self.writes, self.atomic_writes = (
-            [], collections.defaultdict(list), {}, collections.defaultdict(dict))
+            [], collections.defaultdict(dict), {}, collections.defaultdict(dict))
         self.locks, self.atomics, self.posts = (collections.defaultdict(dict),
                                                 collections.defaultdict(Atomic),
                                                 collections.defaultdict(list))
@@ -111,7 +102,9 @@ class Analysis:
 
     def access_byte(self, t, place, kind, byte):
         """A read sees the last plain write; a plain one also the last atomic write of each thread. An atomic
-        access races with plain writes, and an atomic write with plain reads."""
+        access races with plain writes, and an atomic write with plain reads. `kind` is r, w, or of an atomic
+        access l (load) or a (store or update). Of accesses of one thread, kind and place the last is kept:
+        who comes after it comes after them all."""
         clock = self.clocks[t]
         self.look(t, place, byte, {"r": "w", "w": "rwla", "l": "w", "a": "w"}[kind])
         if kind != "w":
@@ -123,17 +116,17 @@ class Analysis:
                 self.look(t, place, byte, "a", writer)
                 take(clock, gave)
         clock[t] = clock.get(t, 0) + 1
-        self.accesses[byte].append(Access(t, clock[t], kind, place))
+        self.accesses[byte][t, kind, place] = clock[t]
         if kind == "w":
             self.writes[byte] = dict(clock)
         if kind == "a":
             self.atomic_writes[byte][t] = dict(clock)
 
     def look(self, t, place, byte, kinds, writer=None):
-        for one in self.accesses[byte]:
-            if (one.kind in kinds and one.thread != t and writer in (None, one.thread)
-                and self.clocks[t].get(one.thread, 0) < one.time):
-                self.races[one.place, place].add(byte)
+        clock = self.clocks[t]
+        for (thread, kind, other), time in self.accesses[byte].items():
+            if kind in kinds and thread != t and writer in (None, thread) and clock.get(thread, 0) < time:
+                self.races[other, place].add(byte)
 
     def read(self, step, t):
         self.access(t, step, "r", step.size)

@@ -1,10 +1,13 @@
 """The recorder, built for the tests, and the programs that are recorded with it."""
 
+import functools
 import os
 import pathlib
 import re
 import shutil
 import subprocess
+import tempfile
+import threading
 
 from side_by_side import Case
 
@@ -53,14 +56,52 @@ def build_recorder(folder, *settings):
     return copy
 
 
-def sanitized(folder, compiler="gcc"):
+def once(function):
+    """A function whose answers are kept, also for a test that asks while the one beside it waits for one."""
+    guard, kept = threading.Lock(), functools.lru_cache(maxsize=None)(function)
+
+    def answer(*words):
+        with guard:
+            return kept(*words)
+
+    return answer
+
+
+def new_folder():
+    """One beside the recorder, for what several tests use."""
+    return pathlib.Path(tempfile.mkdtemp(dir=BUILT.parent))
+
+
+@once
+def library():
+    """A recorder of its library alone. It isn't optimised as a whole, which takes most of the time."""
+    return build_recorder(new_folder(), "CFLAGS=-O2", "LTO=", "lib/libtsan.so.2")
+
+
+@once
+def taking_turns(definition):
+    """The same with a definition in turn.c."""
+    copy = new_folder() / "recorder"
+    shutil.copytree(library(), copy, symlinks=True)
+    (copy / "runtime/turn.c").touch()
+    must(call("make", "-C", copy, f"CFLAGS=-O2 -D{definition}", "LTO=", "lib/libtsan.so.2"))
+    return copy
+
+
+def compile_converter(sources, folder, *words):
+    """Compiles the converter and its reader of modules by these words into a folder."""
+    must(call(*words, *sorted(sources.glob("converter/*.c")), "-o", folder / "shb-std"))
+    must(call(*words, *sorted(sources.glob("reader/*.c")), sources / "converter/tables.c", "-ldw", "-lelf",
+              "-o", folder / "module-reader"))
+    return folder / "shb-std"
+
+
+@once
+def sanitized(compiler="gcc"):
     """The converter and its reader of modules, built so that they end at the first access
     that isn't allowed."""
-    flags = ["-g", "-O1", "-fsanitize=address,undefined", "-fno-sanitize-recover=all"]
-    must(call(compiler, *flags, *sorted(SOURCES.glob("converter/*.c")), "-o", folder / "shb-std"))
-    must(call(compiler, *flags, *sorted(SOURCES.glob("reader/*.c")), SOURCES / "converter/tables.c", "-ldw",
-              "-lelf", "-o", folder / "module-reader"))
-    return folder / "shb-std"
+    return compile_converter(SOURCES, new_folder(), compiler, "-g", "-O1", "-fsanitize=address,undefined",
+                             "-fno-sanitize-recover=all")
 
 
 def build(source, option, program, built=None):

@@ -63,3 +63,5 @@ class Containers(recorder.Case):
         """The C++ library's functions are the program's own, and it runs as before."""
         for container in "-DMAP", "-DLIST", "-DSTRING":
             self.record(self.build(PROGRAM, GCC, "-static-libstdc++", "-O1", container), 1, "i")
+        exceptions = recorder.PROGRAMS / "exceptions.cc"
+        self.record(self.build(exceptions, GCC, "-static-libstdc++", "-static-libgcc", "-O1"), 1)

@@ -276,7 +276,7 @@ FAULTS = {  # to plant in the converter: the file, what stands there, and what i
     "cuts": ("accesses.c", "cut(e->address, e->operation == OP_FREE ? e->address : end);",
              "cut(e->address, e->address);"),
     "atomics": ("accesses.c", "if (u->writes_atomically && has_others(users->readers, u->thread)) {",
-                "if (u->writes_atomically && users->readers.many) {"),
+                "if (u->writes_atomically && users->readers == SEVERAL) {"),
     "reuse": ("memory.c", "return grain > p->whole ? grain : p->whole;",
               "return grain ? 1 : p->whole;"),
     "what was found is kept for a new block": ("memory.c", "    memory_state++;\n    return &blocks",
@@ -288,7 +288,7 @@ FAULTS = {  # to plant in the converter: the file, what stands there, and what i
     "late": ("late.c", "const u64 order = its->where % POSITIONS;", "const u64 order = end - first;"),
     "list_name": ("events.c", "        part name = variable_name(p->at, block", "        part name = "
                   "variable_name(p->at & ~1ul, block"),
-    "shared_lock": ("objects.c", "(o->threads.many && (", "(is_atomic(e->operation) && ("),
+    "shared_lock": ("objects.c", "(o->threads == SEVERAL && (", "(is_atomic(e->operation) && ("),
     "the last section before another thread's": ("objects.c", "orders_others.at[o->section - 1] = orders",
                                                  "orders"),
     "the first section behind another thread's": ("objects.c", "= orders_others.at[orders_others.count - 1] "

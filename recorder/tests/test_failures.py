@@ -175,7 +175,7 @@ class Failures(recorder.Case):
         few = recorder.build_recorder(self.folder, "lib/forwarded.inc")
         text = (few / "record.h").read_text()
         (few / "record.h").write_text(text.replace("THREAD_NUMBERS 65534", "THREAD_NUMBERS 32"))
-        recorder.must(recorder.call("make", "-C", few, "CFLAGS=-O1", "lib/libtsan.so.2"))
+        recorder.must(recorder.call("make", "-C", few, "CFLAGS=-O1", "LTO=", "lib/libtsan.so.2"))
         recorder.build(recorder.PROGRAMS / "detached_in_turn.c", "-O1", program, few)
         self.assertEqual(recorder.must(recorder.call(program, env=recorder.settings(path))).stderr, b"")
         trace = recorder.must(recorder.convert(path)).stdout

@@ -141,7 +141,7 @@ class Linked(recorder.Case):
 
     def test_damaged_modules(self):
         """No access is made that isn't allowed."""
-        recorder.sanitized(self.folder)
+        reader = recorder.sanitized().with_name("module-reader")
         draw, part = random.Random(6), self.folder / "part"
         how = {**os.environ, "ASAN_OPTIONS": "detect_leaks=0"}
         for number in range(120):
@@ -152,6 +152,6 @@ class Linked(recorder.Case):
                 content[draw.randrange(begin, end)] = draw.choice((0, 1, 127, 128, 255, draw.randrange(256)))
             part.write_bytes(content[:draw.choice((len(content), draw.randrange(len(content))))])
             for question in "kind", "calls":
-                ran = recorder.call(self.folder / "module-reader", part, question, env=how)
+                ran = recorder.call(reader, part, question, env=how)
                 with self.subTest(number):
                     self.assertEqual((ran.returncode, ran.stderr), (0, b""))

@@ -87,7 +87,7 @@ class Programs(recorder.Case):
                 record = self.recorded(compiler, option, "dead_locals.c")
                 trace.write_bytes(recorder.must(recorder.convert(record, "--stacks", path)).stdout)
                 view = recorder.PYTHON / "shb-view"
-                shown = recorder.call(sys.executable, "-B", view, "--stacks", path, trace,
+                shown = recorder.call(sys.executable, view, "--stacks", path, trace,
                                       env={**os.environ, "SHB": str(recorder.SHB)})
                 with self.subTest(compiler=compiler, option=option):
                     self.assertIn(b"1. flag of wait_for", recorder.must(shown).stdout)
@@ -208,7 +208,7 @@ class MadeByHand(recorder.Case):
 
     def test_damaged_places(self):
         """A name is one of the local, or none is there."""
-        converter, draw = recorder.sanitized(self.folder), random.Random(5)
+        converter, draw = recorder.sanitized(), random.Random(5)
         numbers = (0, 1, 7, 8, 16, 199, 200, (1 << 24) - 1)
         for _ in range(60):
             frames = b"".join(self.entered(draw.choice(numbers), draw.choice(numbers), depth)
@@ -229,7 +229,7 @@ class MadeByHand(recorder.Case):
             self.assertEqual([os.fsencode(name) for name in self.names()], [shown + b"+4 of main"] * 2)
 
     def test_damaged_debug_information(self):
-        converter, good = recorder.sanitized(self.folder), self.program.read_bytes()
+        converter, good = recorder.sanitized(), self.program.read_bytes()
         self.write(self.entered())
         names = set()
         for number, content in enumerate(

@@ -194,7 +194,7 @@ class Damaged(recorder.Case):
 
     def setUp(self):
         super().setUp()
-        self.converter = recorder.sanitized(self.folder)
+        self.converter = recorder.sanitized()
 
     def test_damaged_types_of_blocks(self):
         """A name is there or not, and no access is made that isn't allowed."""

@@ -203,7 +203,7 @@ class Readers(Recorded):
             text = (folder / path).read_text()
             self.assertEqual(text.count(before), 1, before)
             (folder / path).write_text(text.replace(before, after))
-        recorder.must(recorder.call("make", "-C", folder, "module-reader", "shb-std"))
+        recorder.compile_converter(folder, folder, "gcc", "-w")
         return folder
 
     def test_the_limit_of_time(self):

@@ -14,6 +14,7 @@ ORDERS = 0, 2, 3, 4, 5  # relaxed, acquire, release, both, sequentially consiste
 # post alone).
 WORDS = ["RW", "RWL", "RWA", "AR", "RWLS", "RWALFS", "RWP", "RWPX", "RWLX", "RWX"]
 ATOMICS = "ATOMIC_LOAD", "ATOMIC_STORE", "ATOMIC_UPDATE"
+COMPILER = "gcc", "-w", "-O0", "-mpopcnt"
 
 
 class Drawn:
@@ -121,9 +122,17 @@ def accesses(trace, variables):
     return {line for line, _, variable in found if variable in variables}
 
 
+@recorder.once
+def compiled():
+    """The folder of the converter's object files, as it is."""
+    folder = recorder.new_folder()
+    recorder.must(recorder.call(*COMPILER, "-c", *(recorder.SOURCES / "converter").glob("*.c"), cwd=folder))
+    return folder
+
+
 def planted(folder, *changes):
     """The converter with another text at one place of its sources, or at several: the file's name, what
-    stands there, and what in its place."""
+    stands there, and what in its place. Only files that change are compiled."""
     shutil.copytree(recorder.SOURCES / "converter", folder / "converter")
     shutil.copy(recorder.SOURCES / "record.h", folder)
     for name, before, after in zip(*[iter(changes)] * 3):
@@ -132,8 +141,10 @@ def planted(folder, *changes):
         if text.count(before) != 1:
             raise AssertionError(f"{name} has {text.count(before)} times {before}")
         path.write_text(text.replace(before, after))
-    recorder.must(recorder.call("gcc", "-w", "-O0", "-mpopcnt", *sorted((folder / "converter").glob("*.c")),
-                                "-o", folder / "shb-std"))
+    has_header = any(name.endswith(".h") for name in changes[::3])
+    parts = [path if has_header or path.name in changes[::3] else compiled() / f"{path.stem}.o"
+             for path in sorted((folder / "converter").glob("*.c"))]
+    recorder.must(recorder.call(*COMPILER, *parts, "-o", folder / "shb-std"))
     return folder / "shb-std"
 
 

@@ -126,7 +126,7 @@ class Order(recorder.Case):
         """Threads that fork may sleep in the system and lose the turn: each child has a number of its own
         all the same."""
         program, path = self.folder / "forks", self.folder / "forks.rec"
-        hasty = recorder.build_recorder(self.folder, "CFLAGS=-O2 -DHASTY")
+        hasty = recorder.taking_turns("HASTY")
         recorder.build(recorder.PROGRAMS / "forks.c", "-O2", program, hasty)
         for seed in range(8):
             settings = recorder.settings(path, seed + 1, SLICES[seed % len(SLICES)], SHB_CELLS="0")
@@ -136,5 +136,5 @@ class Order(recorder.Case):
             self.assertEqual(recorder.places(trace), set())
 
     def test_turns_that_are_taken_over_in_haste(self):
-        hasty = recorder.build_recorder(self.folder, "CFLAGS=-O2 -DHASTY")
+        hasty = recorder.taking_turns("HASTY")
         self.check_order("-O2", hasty)

@@ -464,7 +464,7 @@ class Damaged(recorder.Case):
         return answer.returncode
 
     def test_is_refused_or_converted_and_nothing_else(self):
-        converter, record, statuses = recorder.sanitized(self.folder), self.folder / "app.rec", []
+        converter, record, statuses = recorder.sanitized(), self.folder / "app.rec", []
         for number, damaged in enumerate(damaged_records()):
             record.write_bytes(damaged)
             with self.subTest(number):
@@ -473,7 +473,7 @@ class Damaged(recorder.Case):
         self.assertGreater(statuses.count(2), 20)
 
     def test_a_program_with_damaged_debug_information(self):
-        converter, record, program = (recorder.sanitized(self.folder), self.folder / "app.rec",
+        converter, record, program = (recorder.sanitized(), self.folder / "app.rec",
                                       self.folder / "app")
         recorder.must(recorder.call("gcc", "-g", *recorder.two_of_one_name(self.folder / "sources"), "-o",
                                     program, "-pthread"))
@@ -488,7 +488,7 @@ class Damaged(recorder.Case):
         """clang's sanitizer knows what gcc's doesn't: that nothing may be added to a null pointer."""
         if not shutil.which("clang"):
             self.skipTest("clang isn't installed")
-        converter, record, program = (recorder.sanitized(self.folder, "clang"), self.folder / "app.rec",
+        converter, record, program = (recorder.sanitized("clang"), self.folder / "app.rec",
                                       self.folder / "app")
         recorder.must(recorder.call("gcc", "-g", *recorder.two_of_one_name(self.folder / "sources"), "-o",
                                     program, "-pthread"))

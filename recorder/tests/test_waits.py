@@ -7,7 +7,7 @@ class Waits(recorder.Case):
     def test_each_wait_gives_the_turn_up(self):
         """In a recorder in which no waiter takes the turn from one that sleeps, a wait that keeps it
         lasts for ever."""
-        patient = recorder.build_recorder(self.folder, "CFLAGS=-O2 -DIS_PATIENT=1")
+        patient = recorder.taking_turns("IS_PATIENT=1")
         recorder.build(recorder.PROGRAMS / "waits.c", "-O1", self.folder / "waits", patient)
         ways = recorder.must(recorder.call(self.folder / "waits"))
         self.assertGreater(ways.stdout.count(b"\n"), 20)
@@ -18,7 +18,7 @@ class Waits(recorder.Case):
     def test_no_thread_keeps_the_turn_by_its_memory(self):
         """In such a recorder calls that get memory end a slice, and so does each long range, however
         long slices are."""
-        patient = recorder.build_recorder(self.folder, "CFLAGS=-O2 -DIS_PATIENT=1")
+        patient = recorder.taking_turns("IS_PATIENT=1")
         recorder.build(recorder.PROGRAMS / "starves.c", "-O1", self.folder / "starves", patient)
         for way, slice in enumerate((100, 100, 100_000_000)):
             with self.subTest(way):

@@ -41,8 +41,8 @@ SUMS = ROOT / "tests" / "gate" / "refused.sums"
 MEMORY = 3_000_000_000  # a check of edits waits until so many bytes are free; most take less than 2.5 GB
 CALLS = "tests/calls.py"  # of the crates, unproved: beside the first proofs
 # on the built program, the longest first
-SUITES = ("recorder/tests/run.py", "tests/run.py", "tests/costs.py", "python/tests/run.py",
-          "packaging/tests/run.py")
+SUITES = ("recorder/tests/run.py", "tests/run.py", "tests/costs.py", "packaging/tests/run.py",
+          "python/tests/run.py")
 AT_ONCE = 2  # suites
 CLOSING = re.compile(r"(\d+) passed, (\d+) failed(?:, \d+ skipped)?")
 
@@ -86,19 +86,20 @@ class Edits:
 
     def __init__(self, room, tries_all):
         self.crates, self.tries_all = kit.crates_of(room), tries_all
-        self.layers, self.commit = record.Layers(ROOT), git("rev-parse", "HEAD").strip()
+        self.layers = record.Layers(ROOT)
+        every = [edit for name in self.layers.uses for edit in self.layers.edits(name)]
+        self.drawn = record.drawn(git("rev-parse", "HEAD").strip(), every)
         self.known = record.read(SUMS)
         self.sums = {name: self.layers.state(name, kit.logic()) for name in self.layers.uses}
         self.running, self.at_work, self.guard = [], 0, threading.Lock()
-        # Proofs come first: an edit's check gets what they leave of the processors.
-        self.pool = concurrent.futures.ThreadPoolExecutor(kit.processors(), initializer=lambda: os.nice(10))
+        self.pool = concurrent.futures.ThreadPoolExecutor(kit.processors())
 
     def chosen(self, name):
         """The edits of a crate to try: all where the record doesn't answer for them, else those that
         the commit draws."""
         edits = self.layers.edits(name)
         is_known = not self.tries_all and self.sums[name] == self.known.get(name)
-        return [edit for edit in edits if not is_known or record.is_drawn(self.commit, edit)]
+        return [edit for edit in edits if not is_known or edit in self.drawn]
 
     def begin(self, name):
         chosen = self.chosen(name)
@@ -136,11 +137,18 @@ class Edits:
         count.add(passed, len(told) - passed)
 
 
-def run_suite(script, program=""):
+def environment(room):
+    """In it Python compiles the modules of the commands once, into a room; in the machine's own each of the
+    many calls of a command might compile them anew."""
+    own = {name: value for name, value in os.environ.items() if name != "PYTHONDONTWRITEBYTECODE"}
+    return {**own, "PYTHONPYCACHEPREFIX": str(room / "compiled")}
+
+
+def run_suite(script, room, program=""):
     """Runs tests, on the built program if they need it. The script's name, its status and output."""
     words = [sys.executable, "-u", str(ROOT / script), str(program)]
-    ran = subprocess.run(words, cwd=ROOT, stdin=subprocess.DEVNULL, stdout=subprocess.PIPE,
-                         stderr=subprocess.STDOUT)
+    ran = subprocess.run(words, cwd=ROOT, env=environment(room), stdin=subprocess.DEVNULL,
+                         stdout=subprocess.PIPE, stderr=subprocess.STDOUT)
     return script, ran.returncode, ran.stdout.decode(errors="replace")
 
 
@@ -159,7 +167,8 @@ def prove(room, command, edits, pool, count):
                 print(f"{built}: built after {time.monotonic() - began:.0f} s", flush=True)
                 edits.begin(built)
             if built == "shb":
-                suites = [pool.submit(run_suite, script, room / "crates/shb/out/shb") for script in SUITES]
+                program = room / "crates/shb/out/shb"
+                suites = [pool.submit(run_suite, script, room, program) for script in SUITES]
     count.add_command(proofs.returncode, last)
     return suites
 
@@ -174,7 +183,7 @@ def run_gate(room, options):
         subprocess.Popen = steps.measured(options.steps, "edits")
     edits = Edits(room, options.all)
     with concurrent.futures.ThreadPoolExecutor(AT_ONCE) as pool:
-        calls = pool.submit(run_suite, CALLS)
+        calls = pool.submit(run_suite, CALLS, room)
         suites = prove(room, command, edits, pool, count)
         edits.ended(count)
         if not suites:

@@ -2,9 +2,9 @@
 
 Whether an edit is refused rests on the crate's own text, on the contracts, definitions and lemmas of the
 crates below, and on the kit's logic. It doesn't rest on bodies below, since a proof reads none. So the sum of
-a crate is over these texts, without comments. Where it is as the record has it, a tenth of the crate's edits
-is tried, which the commit draws: a forged line is found out by one gate in ten for each edit. A crate that
-isn't in the record has all its edits tried.
+a crate is over these texts, without comments. Where it is as the record has it, those of its edits are tried
+that are in the tenth of all edits that the commit draws: a forged line is found out by one gate in ten for
+each edit. A crate that isn't in the record has all its edits tried.
 """
 
 import hashlib
@@ -13,7 +13,7 @@ import re
 
 # of one function's proof; the other files of proofs/ are lemmas
 OF_A_PROOF = ("Answers.antt", "Invariants.antt", "Proof.antt")
-DRAWN = 10  # of so many edits that the record answers for, one is tried
+PARTS = 20  # of all edits, of which a commit draws two
 
 
 def sum_of(what):
@@ -101,6 +101,9 @@ def write(path, sums):
     path.write_text("".join(f"{name} {found}\n" for name, found in sorted(sums.items())))
 
 
-def is_drawn(commit, edit):
-    """Whether a commit chooses this edit among those that the record answers for."""
-    return int(sum_of([commit, edit.parent.parent.name, edit.name])[:8], 16) % DRAWN == 0
+def drawn(commit, edits):
+    """The edits that a commit draws to be tried though the record answers for them: two parts of neighbours,
+    since those of one crate share the proofs of its lemmas and, where functions differ, their checks."""
+    first = int(sum_of(commit)[:8], 16) % (PARTS // 2)
+    return [edit for part in (first, first + PARTS // 2)
+            for edit in edits[part * len(edits) // PARTS : (part + 1) * len(edits) // PARTS]]
