@@ -308,8 +308,8 @@ static void take_table(int log) {
     }
 }
 
-/* Now and then it gets one, in a table of another cell's or in the place of the cell's others. The larger
-   the table the seldomer: what is put for it is bounded by the uses without room. */
+/* Now and then it gets one, in a table of another cell's or in the place of the cell's others. That is
+   rarer for a larger table: what is put for it is bounded by the uses without room. */
 static uint64_t *make_key(cell *c, uint64_t address, uint32_t use, uint64_t word) {
     static unsigned overflows;
     if (++overflows % (OVERFLOWS << c->log_lines)) return 0;
