@@ -33,7 +33,7 @@ def run(test):
     if result.skipped:
         print("skip", test.id(), *(reason for _, reason in result.skipped), flush=True)
         return None
-    trouble = [text for _, text in [*result.failures, *result.errors]]
+    trouble = [f"{part.id()}\n{text}" for part, text in [*result.failures, *result.errors]]
     passed = not trouble and result.testsRun == 1
     print("ok  " if passed else "FAIL", test.id(), *trouble, flush=True)
     return passed
