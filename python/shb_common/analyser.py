@@ -4,7 +4,6 @@ import collections
 import contextlib
 import os
 import subprocess
-import tempfile
 
 from shb_common import variables
 from shb_common.refused import without_note
@@ -34,7 +33,7 @@ class Run:
     PIPE."""
 
     def __init__(self, words, given, out, **how):
-        self.said = tempfile.TemporaryFile()
+        self.said = unnamed_file()
         try:
             self.process = subprocess.Popen(words, stdin=given, stdout=out, stderr=self.said, **how)
         except BaseException:
@@ -77,6 +76,14 @@ class Run:
             self.process.kill()
             self.process.wait()
         self.said.close()
+
+
+def unnamed_file():
+    """A new open file for some words: in memory, if this Python was built for that."""
+    if hasattr(os, "memfd_create"):
+        return open(os.memfd_create("words"), "w+b")
+    import tempfile  # takes its time
+    return tempfile.TemporaryFile()
 
 
 def rewound(file):

@@ -7,7 +7,6 @@ import posixpath
 
 from shb_common.known import CALL, Side, written
 from shb_common.locations import parts_of
-from shb_common.stacks import Stacks
 
 MOST_PARTS = 12     # folders of a path that a name may have
 
@@ -28,8 +27,8 @@ class Origin:
     """Where a trace's locations come from. `tables` has the functions, source files and locals beside it;
     `program` is the path of the program, if it is known."""
 
-    def __init__(self, tables=None, program=b""):
-        self.tables, self.program, self.modules = tables or Stacks(), program, {}
+    def __init__(self, tables, program=b""):
+        self.tables, self.program, self.modules = tables, program, {}
         self.called = {}    # by a file's path: its name in the trace
 
     def add_modules(self, paths):

@@ -13,7 +13,7 @@ from shb_common.words import printable
 
 NUMBER = rb"(0|[1-9][0-9]{0,19})"
 ACCESS = rb"[^\n|]+\|[rw]\([^\n|]+\)(?:\|[^\n]*)?"
-SCHEDULE = re.compile(b"schedule %b:" % NUMBER)
+SCHEDULE = b"schedule %b:" % NUMBER
 MOST_EVENTS = 1_000     # of a schedule that is given as a list
 LONGEST = 60        # columns of a line that a refusal shows
 Counts = collections.namedtuple("Counts", "events threads locks variables")  # what a trace has
@@ -59,7 +59,10 @@ class Form:
 
     def __init__(self, *lines):
         self.lines, self.further = lines, range(len(lines) - 1)
-        self.match = re.compile(b"".join(pattern for pattern, _ in lines)).fullmatch
+
+    @functools.cached_property  # a report without races does without most of them
+    def match(self):
+        return re.compile(b"".join(pattern for pattern, _ in self.lines)).fullmatch
 
 
 HEAD = Form((rb"shb-report 2\n", "shb-report 2"),
@@ -118,7 +121,7 @@ class Lines:
         """Where the schedule of the next line begins. It may be long, and isn't kept: `check` judges it."""
         start = self.start
         self.number += 1
-        if SCHEDULE.match(self.line) is None:
+        if re.match(SCHEDULE, self.line) is None:
             raise BadReport(f"line {self.number} of the report is {said(self.line)}; it should be `schedule "
                             "N: N EVENTS`")
         while self.line:
@@ -191,7 +194,7 @@ def in_order(file, race, events):
     """Some events in the order of the race's schedule, which `shb check` found good, and that schedule."""
     file.seek(race.schedule)
     line = file.readline().replace(b"\n", b" ")
-    places, head = {event: line.rfind(b" %d " % event) for event in events}, SCHEDULE.match(line)
+    places, head = {event: line.rfind(b" %d " % event) for event in events}, re.match(SCHEDULE, line)
     length = int(head[1])
     has_few = length <= MOST_EVENTS
     schedule = Schedule(length, list(map(int, line[head.end():].split())) if has_few else None)

@@ -7,12 +7,10 @@ import posixpath
 import re
 
 from shb_common import known
-from shb_common.locations import line_of, parts_of
+from shb_common.locations import bare, line_of, parts_of
 from shb_common.parts import installed
 from shb_common.result import in_bytes
 from shb_common.sources import read_lines
-from shb_common.stacks import bare
-from shb_common.sums import blake2b
 from shb_common.words import printable
 
 SCHEMA = "https://docs.oasis-open.org/sarif/sarif/v2.1.0/errata01/os/schemas/sarif-schema-2.1.0.json"
@@ -126,6 +124,7 @@ def named(place):
 
 
 def fingerprint(parts, between=b"\t", size=16):
+    from shb_common.sums import blake2b  # takes its time, and most calls have no place
     return blake2b(between.join(parts), digest_size=size).hexdigest()
 
 

@@ -8,14 +8,13 @@ import os
 import re
 
 from shb_common.files import open_regular
-from shb_common.locations import line_of, parts_of
+from shb_common.locations import bare, line_of, parts_of
 from shb_common.words import printable
 
-BEGIN = re.compile(rb"shb-stacks 1 ([0-9]{20})\n")
+BEGIN = rb"shb-stacks 1 ([0-9]{20})\n"
 BEGIN_BYTES = 34
 NUMBER_BYTES = 4    # of an event's stack
 BLOCK = rb"(?s).*#([0-9]{1,18})(?:\+[0-9]+)?"  # a variable in a block, as the recorder names it
-QUALIFIERS = rb"(?: const| volatile)+$"
 ORDERS = b"relaxed", b"acquire", b"release", b"both"
 USES = b"load", b"store", b"update", b"fence"
 NUMBERED = b"stack", b"block", b"free"
@@ -178,7 +177,7 @@ class Stacks:
 
 def events_in(file):
     """The number of events of an open file of stacks; the next read begins after its first line."""
-    begin = BEGIN.fullmatch(file.read(BEGIN_BYTES))
+    begin = re.fullmatch(BEGIN, file.read(BEGIN_BYTES))
     if not begin or BEGIN_BYTES + NUMBER_BYTES * int(begin[1]) > os.fstat(file.fileno()).st_size:
         raise BadStacks(OTHER)
     return int(begin[1])
@@ -202,30 +201,3 @@ def use_of(text):
     if order not in ORDERS or use not in USES or again not in ([], [b"again"]):
         raise ValueError
     return use, order, bool(again)
-
-
-@functools.lru_cache(maxsize=1024)
-def bare(function):
-    """A function's name without its parameters, and without arguments of templates."""
-    name = re.sub(QUALIFIERS, b"", function) if function.endswith((b" const", b" volatile")) else function
-    if name.endswith(b")") and not name.endswith(b"operator()"):
-        name = name[:opening(name)]
-    if b"operator" in name or b"->" in name:
-        return name
-    found, depth = bytearray(), 0
-    for byte in name:
-        depth -= byte == ord(">")
-        if not depth:
-            found.append(byte)
-        depth += byte == ord("<")
-    return bytes(found) if not depth else name
-
-
-def opening(name):
-    """Where the parenthesis opens that the name ends with, or its end."""
-    depth = 0
-    for at in range(len(name) - 1, -1, -1):
-        depth += (name[at] == ord(")")) - (name[at] == ord("("))
-        if not depth:
-            return at
-    return len(name)

@@ -27,10 +27,10 @@ class Calls:
     def origin_of(self, name):
         path = self.path_of(name)
         try:
-            return Origin(stacks.Stacks(path)) if path else Origin()
+            return Origin(stacks.Stacks(path))
         except (stacks.BadStacks, OSError) as fault:
             self.pass_over(path, fault)
-            return Origin()
+            return Origin(stacks.Stacks())
 
     def pass_over(self, path, fault):
         if path not in self.damaged:

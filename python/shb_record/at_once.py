@@ -9,7 +9,6 @@ import select
 import shutil
 import signal
 import stat
-import tempfile
 import time
 
 from shb_common.children import adopt_orphans
@@ -36,6 +35,7 @@ class Worker:
     """The process that makes a run. What it and the program write is in files until it is this run's turn."""
 
     def __init__(self, options, number, folder):
+        import tempfile  # takes its time, as `pickle` below, and one run does without
         new = lambda: tempfile.TemporaryFile(dir=folder)
         self.number, self.answer, out = number, new(), new()
         self.written = {1: out, 2: out if os.path.sameopenfile(1, 2) else new()}
@@ -97,7 +97,7 @@ def outcomes(options, folder, look=None):
             yield outcome if outcome.stop else outcome._replace(stop=stop, stopped=stopped)
     finally:
         end(workers)
-        for path in (path for worker in workers for path in files_in(folder, f"run{worker.number}.*")):
+        for path in (path for worker in workers for path in files_in(folder, f"run{worker.number}.")):
             os.unlink(path)
 
 

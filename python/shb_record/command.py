@@ -2,7 +2,6 @@
 
 import argparse
 import contextlib
-import errno
 import itertools
 import os
 import shlex
@@ -182,7 +181,7 @@ def check_program(name):
     if "/" not in name and shutil.which(f"./{name}"):
         say(f"{name}: not on the PATH; ./{name} names the one in this folder")
         return NOT_THERE
-    say(f"{name}: can't be run: {os.strerror(errno.EISDIR if os.path.isdir(name) else errno.EACCES)}")
+    say(f"{name}: can't be run: {'Is a directory' if os.path.isdir(name) else 'Permission denied'}")
     return CANNOT_RUN
 
 

@@ -14,9 +14,7 @@ from shb_common.analyser import LIST_VARIABLES, Run, places_in
 from shb_common.children import apart
 from shb_common.files import remove
 from shb_common.report import BadReport, Report
-from shb_common.stacks import BadStacks, Stacks
 from shb_common.sums import sha256
-from shb_common.uses import BadUses, Uses
 from shb_common.words import Refused, counted
 from shb_record.parts import ANALYSER, CONVERTER, files_in
 
@@ -57,7 +55,7 @@ class Records:
     def left(self, number):
         """What was recorded in this run, by the numbers of processes, which are looked at together."""
         records = {os.path.basename(path)[:-len(".rec")]: path
-                   for path in files_in(self.folder, f"run{number}.*.rec")}
+                   for path in files_in(self.folder, f"run{number}.", ".rec")}
         found = [process_of(records[base], f"run {number}, process {base.split('.')[1]}", base)
                  for base in sorted(records, key=lambda base: list(map(int, re.findall(r"\d+", base))))]
         return [found] if found else []
@@ -218,6 +216,8 @@ class Conversion:
 
     def note_page(self, places):
         """The page's trace is there: its events that are those of races of the run have the same lines."""
+        from shb_common.stacks import BadStacks, Stacks  # takes its time, and most runs have no place
+        from shb_common.uses import BadUses, Uses
         try:
             uses = Uses(self.uses)
             self.called = Stacks(self.stacks, uses.count)

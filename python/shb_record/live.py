@@ -26,7 +26,7 @@ class Segments:
     def files(self):
         """The segments that are there, those that were written to last at the end."""
         found = []
-        for path in files_in(self.folder, "run1.*.rec"):
+        for path in files_in(self.folder, "run1.", ".rec"):
             with contextlib.suppress(FileNotFoundError):    # the recorder has dropped it
                 found.append((os.stat(path).st_mtime_ns, segment_of(path), path))
         return [path for _, _, path in sorted(found)]
@@ -71,7 +71,7 @@ class Segments:
         remove(blocks)
         with contextlib.suppress(FileNotFoundError):
             os.rename(process.beside(".left"), blocks)
-        for left in files_in(self.folder, os.path.basename(process.beside(".*"))):
+        for left in files_in(self.folder, os.path.basename(process.beside("."))):
             os.unlink(left)
 
     def counts(self, events, passed):

@@ -13,7 +13,6 @@ from shb_record.parts import ANALYSER, now, say
 from shb_record.places import Places
 from shb_record.running import PRELOADED, cause
 
-
 KINDS = {b"r": "read", b"w": "written"}
 MOST_KEPT = 3  # segments that couldn't be looked at
 LATE = "the C library comes before the recorder's"     # the end of such a record
@@ -138,13 +137,11 @@ class Look:
     def add_new(self, looked, places, is_behind=False):
         """Takes places of a process, as `Places.add_new` does; without a page they are earlier segments'."""
         process = looked.process
-        if places and not looked.used:
+        if not looked.used:
             return [], self.places.met_in(process, places)
-        origin = Origin(None, process.program)
-        if places:
-            self.modules.callers |= looked.called.files
-            origin = Origin(looked.called, process.program)
-            origin.add_modules(process.modules)
+        self.modules.callers |= looked.called.files
+        origin = Origin(looked.called, process.program)
+        origin.add_modules(process.modules)
         return self.places.add_new(process, f"{self.results.folder}/{process.base}.std", origin, places,
                                    looked.numbers, is_behind)
 

@@ -6,7 +6,7 @@ import itertools
 import os
 import subprocess
 
-from shb_common.stacks import bare
+from shb_common.locations import bare
 from shb_common.words import printable
 from shb_record.parts import LIBRARY, READER
 

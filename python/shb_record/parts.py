@@ -1,6 +1,5 @@
 """What the command is made of, and where that is."""
 
-import fnmatch
 import os
 import shutil
 import time
@@ -29,10 +28,10 @@ def say(line):
     tell(f"shb-record: {printable(str(line).encode('utf-8', 'surrogateescape'))}")
 
 
-def files_in(folder, pattern):
-    """The paths of the files in a folder whose names have a pattern; none where it is gone."""
+def files_in(folder, begin, end=""):
+    """The paths of the files in a folder whose names begin and end so; none where it is gone."""
     names = os.listdir(folder) if os.path.isdir(folder) else []
-    return [f"{folder}/{name}" for name in fnmatch.filter(names, pattern)]
+    return [f"{folder}/{name}" for name in names if name.startswith(begin) and name.endswith(end)]
 
 
 def now():

@@ -6,7 +6,7 @@ import itertools
 import os
 import re
 import shutil
-import tempfile
+import time
 
 from shb_common.words import Refused
 from shb_record.parts import files_in, now, say
@@ -36,8 +36,8 @@ class Results:
             self.path(name, is_there=True)
         self.tables = {name: self.path(name) for name in TABLES}
         # records before they are looked at
-        self.work = tempfile.mkdtemp(prefix="work-", dir=self.folder)
-        self.path(os.path.basename(self.work), is_there=True)
+        self.work = self.path(f"work-{time.time_ns()}")
+        os.mkdir(self.work, 0o700)
         open(f"{self.work}/{LIST}", "wb").close()   # shows a later call that it is one of ours
         self.first = [] if spared else list(self.names)     # which say nothing if they are all
 
@@ -73,7 +73,7 @@ class Results:
         return kept
 
     def keep_records(self):
-        for record in sorted(files_in(self.work, "*.rec")):
+        for record in sorted(files_in(self.work, "", ".rec")):
             say(f"the record is kept: {self.keep(record, os.path.basename(record))}")
 
     def has_more(self):
@@ -128,4 +128,3 @@ def remove(path):
     if os.path.basename(path).startswith("work-") and os.path.isfile(f"{path}/{LIST}"):
         shutil.rmtree(path, ignore_errors=True)
     return False
-

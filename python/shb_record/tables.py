@@ -9,7 +9,6 @@ from shb_common import result, sarif
 from shb_common.places import unknown_places
 from shb_common.parts import part_of_page
 from shb_common.programs import pair_of
-from shb_common.stacks import Frame
 from shb_record.places import count, table
 
 
@@ -76,6 +75,7 @@ def without_numbers(found):
 
 
 def access_of(one, sources):
+    from shb_common.stacks import Frame  # takes its time, and most runs have no place
     frames = [Frame(*(frame[name].encode() for name in ("function", "location")),
                     frame.get("in_system", False)) for frame in one["stacks"][0]["frames"]]
     return sarif.Access(one["thread"].encode(), one["operation"].encode(), frames, sources)

@@ -4,7 +4,7 @@ import collections
 import re
 
 from shb_common.result import text
-from shb_common.stacks import bare
+from shb_common.locations import bare
 from shb_common.variables import variable_of
 from shb_view.facts import RANKS, fact_of, joined, sites_of
 from shb_view.groups import ON_STACK, Group, Pair, object_of

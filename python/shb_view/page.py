@@ -7,9 +7,8 @@ import itertools
 import json
 import shlex
 
-from shb_common.locations import line_of
+from shb_common.locations import bare, line_of
 from shb_common.parts import part_of_page
-from shb_common.stacks import bare
 from shb_common.sums import sha256
 from shb_common.words import counted, in_html
 from shb_view.facts import RANKS, blamed_of

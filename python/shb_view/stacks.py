@@ -4,8 +4,7 @@ import itertools
 import re
 
 from shb_common.known import OFFSET
-from shb_common.locations import parts_of
-from shb_common.stacks import bare
+from shb_common.locations import bare, parts_of
 from shb_common.words import counted
 from shb_view.words import Code, listed, lock_parts, place
 

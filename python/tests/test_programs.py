@@ -28,7 +28,7 @@ class Locations(side_by_side.Case):
     def test_without_a_program_a_location_is_its_text(self):
         for text in (b"", b"12", b"a.c:5", b"a:b:5", b"dir/../a.c:5", b"\n:1", b"a+0xff", b"\xff",
                      b"/usr/include/a.h:3", b"/"):
-            one, names = Origin(), Names()
+            one, names = Origin(Stacks()), Names()
             location = one.location(text)
             names.add_all(one)
             self.assertEqual((location.path + location.rest, names.name(location)), (text, text))
