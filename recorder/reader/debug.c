@@ -9,7 +9,7 @@
 #include "debug.h"
 
 /* ---- what isn't read ---- */
-int has_section(Elf *elf, const char *name) {
+static Elf_Scn *section_of(Elf *elf, const char *name) {
     size_t names;
     if (elf_getshdrstrndx(elf, &names)) return 0;
     for (Elf_Scn *s = 0; (s = elf_nextscn(elf, s));) {
@@ -17,10 +17,12 @@ int has_section(Elf *elf, const char *name) {
         const char *found = gelf_getshdr(s, &header)
             && header.sh_type != SHT_NOBITS ? elf_strptr(elf, names, header.sh_name) : 0;
         if (found && (!strcmp(found, name) || (!strncmp(found, ".z", 2) && !strcmp(found + 2, name + 1))))
-            return 1;
+            return s;
     }
     return 0;
 }
+
+int has_section(Elf *elf, const char *name) { return section_of(elf, name) != 0; }
 
 Elf *own_file(struct debug *d) {
     GElf_Addr bias;
@@ -350,19 +352,55 @@ int frames_at(struct debug *d, u64 pc, debug_frame *frames, int most) {
     return count;
 }
 
+/* ---- source files ---- */
+/* Ends the line table there where its program begins. One that isn't as usual stays as it is. */
+static void drop_program(const Elf_Data *tables, u64 at) {
+    enum { LENGTH = 4, MOST = 12 };
+    u32 length, header;
+    uint16_t version;
+    if (at > tables->d_size || tables->d_size - at < MOST) return;
+    char *table = (char *)tables->d_buf + at;
+    memcpy(&length, table, LENGTH);
+    memcpy(&version, table + LENGTH, sizeof version);
+    const u64 before = version < 5 ? 6 : 8;                  /* bytes before its header's length */
+    memcpy(&header, table + before, LENGTH);
+    const u64 left = before + header;  /* as many, behind its own length, as have the header */
+    if (version < 2 || version > 5 || length == ~0u || length > tables->d_size - at - LENGTH) return;
+    if (left < length) memcpy(table, &(u32){left}, LENGTH);
+}
+
+static void give_sources(unit *u, Dwarf *names, map *given, void (*give)(const char *path)) {
+    Dwarf_Die named;
+    Dwarf_Files *files;
+    size_t count = 0;
+    if (!dwarf_offdie(names, dwarf_dieoffset(&u->linked), &named)
+        || dwarf_getsrcfiles(&named, &files, &count)) return;
+    for (size_t n = 0; n < count && given->count < MOST_SOURCES; n++) {
+        const char *told = dwarf_filesrc(files, n, 0, 0), *path = whole_path(u, told);
+        u64 before = given->count;
+        if (path && map_text(given, path) > before) give(path);
+        if (path != told) free((char *)path);
+    }
+}
+
+/* libdw 0.188 runs a unit's whole line program and sorts its lines also for who asks for its files alone
+   (0.192 doesn't), and most units are asked for no line. So another handle of it reads a copy of the tables
+   without programs. */
 void each_source(struct debug *d, void (*give)(const char *path)) {
     map given = {0};                   /* most units have the same headers */
+    u64 at;
     read_units(d);
-    EACH(u, d->units.at, d->units.count) {
-        Dwarf_Files *files;
-        size_t count = 0;
-        if (dwarf_getsrcfiles(&u->linked, &files, &count)) continue;
-        for (size_t n = 0; n < count && given.count < MOST_SOURCES; n++) {
-            const char *told = dwarf_filesrc(files, n, 0, 0), *path = whole_path(u, told);
-            u64 before = given.count;
-            if (path && map_text(&given, path) > before) give(path);
-            if (path != told) free((char *)path);
-        }
-    }
+    Elf *elf = dwarf_getelf(d->dwarf);
+    Elf_Data *tables = elf_getdata(section_of(elf, ".debug_line"), 0);
+    if (!tables || !tables->d_buf) return;
+    void *whole = tables->d_buf;
+    tables->d_buf = memcpy(zeroed(1, tables->d_size), whole, tables->d_size);
+    EACH(u, d->units.at, d->units.count)
+        if (has_number(&u->linked, DW_AT_stmt_list, &at)) drop_program(tables, at);
+    Dwarf *names = dwarf_begin_elf(elf, DWARF_C_READ, 0);
+    EACH(u, d->units.at, d->units.count) give_sources(u, names, &given, give);
+    dwarf_end(names);
+    free(tables->d_buf);
+    tables->d_buf = whole;
     free(given.entries);
 }

@@ -2,6 +2,7 @@
 what isn't read."""
 
 import os
+import pathlib
 import random
 import re
 import shutil
@@ -339,27 +340,51 @@ while True:
         self.assertIn(f"shb-std: {self.program}: names and places may be addresses, for its reader gave a "
                       "wrong answer", self.said(answer))
 
-    def test_a_source_file_comes_once(self):
-        """Also a header of several files."""
-        parts = []
-        (self.folder / "both.h").write_text("static inline int *one(int *p) { return p + *p; }\n")
-        for name in "a.c", "b.c":
-            (self.folder / name).write_text(f'#include "both.h"\nint *of_{name[0]}(int *p) {{ return one(p); '
-                                            '}\n')
-            parts.append(self.folder / name)
+    def library_of_two(self, *options):
+        """One of two source files, which have a header."""
         library = self.folder / "both.so"
-        recorder.must(recorder.call("gcc", "-g", "-O1", "-shared", "-fPIC", *parts, "-o", library))
-        sources = re.search(r"enum request_kind \{(.*?)ASK_SOURCES",
-                            (recorder.SOURCES / "converter/answers.h").read_text(), re.S)[1].count("ASK_")
+        (self.folder / "both.h").write_text("static inline int *one(int *p) { return p + *p; }\n")
+        for name in "ab":
+            (self.folder / f"{name}.c").write_text(f'#include "both.h"\nint *of_{name}(int *p) {{ return '
+                                                   'one(p); }\n')
+        recorder.must(recorder.call("gcc", "-g", "-O1", "-shared", "-fPIC", *options, self.folder / "a.c",
+                                    self.folder / "b.c", "-o", library))
+        return library
+
+    def sources(self, library):
+        """What the reader tells of its source files that are in the test's folder."""
+        number = re.search(r"enum request_kind \{(.*?)ASK_SOURCES",
+                           (recorder.SOURCES / "converter/answers.h").read_text(), re.S)[1].count("ASK_")
         answer, found = (
             recorder.must(recorder.call(recorder.BUILT / "module-reader", library,
-                                        input=struct.pack("<QQ", sources, 0))).stdout, [])
+                                        input=struct.pack("<QQ", number, 0))).stdout, [])
         while struct.unpack_from("<I", answer, 16)[0] != 0x7fffffff:
             first, second = struct.unpack_from("<II", answer, 16)
-            found.append(answer[24:24 + first].decode())
+            found.append(pathlib.Path(answer[24:24 + first].decode()))
             answer = answer[24 + first + second:]
-        self.assertEqual([os.path.basename(path) for path in found if path.endswith("both.h")], ["both.h"])
-        self.assertTrue({str(part) for part in parts} <= set(found), found)
+        return sorted(path.name for path in found if path.parent == self.folder)
+
+    def test_a_source_file_comes_once(self):
+        """Also a header of several files; in each form of a table of lines."""
+        for option in "-gdwarf-2", "-gdwarf-3", "-gdwarf-4", "-gdwarf-5", "-gdwarf64", "-gz":
+            self.assertEqual(self.sources(self.library_of_two(option)), ["a.c", "b.c", "both.h"], option)
+
+    def test_source_files_are_told_without_lines(self):
+        """Also those of a unit whose lines can't be read, but not where its table's header isn't as it
+        should be; other units have theirs."""
+        for version, header, is_read in (4, 6, True), (4, 6, False), (5, 8, True), (5, 8, False):
+            library, lines = self.library_of_two(f"-gdwarf-{version}"), self.folder / "lines"
+            recorder.must(recorder.call("objcopy", "--dump-section", f".debug_line={lines}", library))
+            table = bytearray(lines.read_bytes())
+            length = struct.unpack_from("<I", table)[0]
+            self.assertEqual(table[length + 1:length + 4], b"\0\1\1")    # the end of its program
+            if is_read:
+                table[length + 2] = 0xff    # bytes of the last instruction
+            else:
+                struct.pack_into("<I", table, header, length)
+            lines.write_bytes(table)
+            recorder.must(recorder.call("objcopy", "--update-section", f".debug_line={lines}", library))
+            self.assertEqual(self.sources(library), ["a.c", "b.c", "both.h"][not is_read:])
 
     def test_modules_of_one_file_have_one_reader(self):
         """And it is told of no server."""
