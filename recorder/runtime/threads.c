@@ -219,9 +219,22 @@ EXECS_LISTED(execl, execv(path, array))
 EXECS_LISTED(execlp, execvp(path, array))
 EXECS_LISTED(execle, execve(path, array, va_arg(more, char **)))
 
+/* What was done before a function was registered, also as a static's destructor, comes before it runs. */
+typedef struct { void (*function)(void *); void *argument; } exit_call;
+static void run_at_exit(void *call_) {
+    exit_call *call = call_;
+    note(OP_WAIT, call, (uint64_t)call->function + 1);
+    call->function(call->argument);
+}
+WRAPS(int, __cxa_atexit, (void (*function)(void *), void *argument, void *module)) {
+    exit_call *call = others && recording ? __libc_malloc(sizeof *call) : 0;
+    if (!call) return REAL_AS(__cxa_atexit)(function, argument, module);
+    *call = (exit_call){function, argument};
+    note(OP_POST, call, CALLER);
+    return REAL_AS(__cxa_atexit)(run_at_exit, call, module);
+}
 /* A program may have it from a part of the C library that is linked into it. */
-int __cxa_atexit(void (*)(void *), void *, void *);
-PUBLIC int atexit(void (*function)(void)) { return __cxa_atexit((void (*)(void *))function, 0, 0); }
+PUBLIC int atexit(void (*function)(void)) { return as___cxa_atexit((void (*)(void *))function, 0, 0); }
 
 /* ---- threads ---- */
 static void *run(void *t_) {
