@@ -162,8 +162,8 @@ static void note_message(uint64_t seen, enum operation operation, const struct m
 /* What is sent is read before the post; what is received is written after the wait. A result is no more than
    an int has. */
 #define TRANSFERS(name) \
-    WRAPS(ssize_t, name, (int f, void *p, word n, word third, word fourth, word fifth))
-#define TRANSFERRED(name) (int)REAL_AS(name)(f, p, n, third, fourth, fifth)
+    WRAPS(ssize_t, name, (int f, void *p, word n, word third, word fourth, word fifth, word sixth))
+#define TRANSFERRED(name) (int)REAL_AS(name)(f, p, n, third, fourth, fifth, sixth)
 #define SENDS(name, accesses) \
     TRANSFERS(name) { \
         uint64_t seen __attribute__((unused)) = begin_call(CALLER); \
@@ -195,7 +195,7 @@ SENDS(sendto, SENDS_BYTES)
 SENDS(sendmmsg, struct mmsghdr *m = p;
       for (unsigned i = 0; i < least((unsigned)n, IOV_MAX); i++)
           note_message(seen, OP_READ, &m[i].msg_hdr, MOST_BYTES))
-SENDS(eventfd_write, ) SENDS(shutdown, )
+SENDS(eventfd_write, ) SENDS(shutdown, ) SENDS(timerfd_settime, ) SENDS(sendfile, ) SENDS(sendfile64, )
 PUBLIC int epoll_ctl(int f, int o, int g, struct epoll_event *e) {
     note_descriptor(OP_POST, data_of(f), CALLER);
     return REAL(epoll_ctl)(f, o, g, e);
@@ -208,6 +208,10 @@ RECEIVES(recvmsg, note_message(seen, OP_WRITE, p, r))
 RECEIVES(recvmmsg, struct mmsghdr *m = p;
          for (int i = 0; i < r; i++) note_message(seen, OP_WRITE, &m[i].msg_hdr, m[i].msg_len))
 RECEIVES(recvfrom, GETS_BYTES(least(r, n)))
+/* As the compiler calls them with -D_FORTIFY_SOURCE. */
+RECEIVES(__read_chk, GETS_BYTES(r))
+RECEIVES(__recv_chk, GETS_BYTES(least(r, n)))
+RECEIVES(__recvfrom_chk, GETS_BYTES(least(r, n)))
 RECEIVES(epoll_wait, GETS_EVENTS)
 RECEIVES(epoll_pwait, GETS_EVENTS)
 RECEIVES(epoll_pwait2, GETS_EVENTS)
@@ -234,8 +238,8 @@ PUBLIC __typeof__(preadv) preadv64 __attribute__((alias("preadv")));
 #define KNOW_ACCEPTED (know_accepted(r), note_descriptor(OP_WAIT, data_of(r), CALLER))
 GIVES_NUMBER(accept, KNOW_ACCEPTED)
 GIVES_NUMBER(accept4, KNOW_ACCEPTED)
-GIVES_NUMBER(socket, )
-GIVES_NUMBER(eventfd, )
+GIVES_NUMBER(socket, ) GIVES_NUMBER(eventfd, ) GIVES_NUMBER(epoll_create1, ) GIVES_NUMBER(timerfd_create, )
+GIVES_NUMBER(open, ) GIVES_NUMBER(open64, ) GIVES_NUMBER(openat, ) GIVES_NUMBER(openat64, )
 PUBLIC int connect(int f, const struct sockaddr *a, socklen_t n) {
     note_sent(f, CALLER);
     if (is_small(f)) connects[f] = 1;

@@ -190,6 +190,11 @@ AFTER(size_t, fread, (void *p, size_t size, size_t n, FILE *f), (p, size, n, f),
       note_stream(OP_WAIT, f, seen); WRITES(p, array(size, r)))
 AFTER(char *, fgets, (char *s, int n, FILE *f), (s, n, f),
       note_stream(OP_WAIT, f, seen); if (r) WRITES(s, text(s)))
+/* As the compiler calls them with -D_FORTIFY_SOURCE. */
+AFTER(size_t, __fread_chk, (void *p, size_t room, size_t size, size_t n, FILE *f), (p, room, size, n, f),
+      note_stream(OP_WAIT, f, seen); WRITES(p, array(size, r)))
+AFTER(char *, __fgets_chk, (char *s, size_t room, int n, FILE *f), (s, room, n, f),
+      note_stream(OP_WAIT, f, seen); if (r) WRITES(s, text(s)))
 AFTER(int, fgetc, (FILE *f), (f), note_stream(OP_WAIT, f, seen))
 AFTER(int, getc, (FILE *f), (f), note_stream(OP_WAIT, f, seen))
 static void got_line(uint64_t seen, FILE *f, char **line, size_t *room, ssize_t length) {
