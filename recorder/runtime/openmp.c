@@ -104,6 +104,7 @@ static void depart(uint64_t caller) {
     }
 BARRIER(GOMP_barrier) BARRIER(GOMP_loop_end) BARRIER(GOMP_sections_end)
 BARRIER(GOMP_barrier_cancel) BARRIER(GOMP_loop_end_cancel) BARRIER(GOMP_sections_end_cancel)
+BARRIER(GOMP_workshare_task_reduction_unregister)
 
 /* The thread that gets null does the work and gives its data to the others, which wait. */
 PUBLIC void *GOMP_single_copy_start(void) {
@@ -151,8 +152,13 @@ TESTS_LOCK(omp_test_nest_lock)
 /* ---- tasks: a task comes after its creation, and before what waits for it ---- */
 enum { TASK_DEPENDS = 8 };             /* in its flags */
 
-static void run_task(void *task_) {
-    task *t = *(task **)task_, *before = now;
+/* What the library copies. If the task has the clause `detach`, it puts the event first, as in the data. */
+typedef struct { void *event; task *task; } handed;
+
+static void run_task(void *handed_) {
+    handed *h = handed_;
+    task *t = h->task, *before = now;
+    if (h->event) *(void **)t->data = h->event;
     now = t;
     note(OP_WAIT, t->begin, t->caller);
     if (t->depends) note(OP_WAIT, t->team->depend, t->caller);
@@ -190,7 +196,8 @@ PUBLIC void GOMP_task(function f, void *data, copy_function copy, long size, lon
     t->depends = (flags & TASK_DEPENDS) != 0;
     note(OP_POST, t->begin, CALLER);
     let_others_run();
-    REAL(GOMP_task)(run_task, &t, 0, sizeof t, sizeof t, deferred, flags, depend, priority, detach);
+    handed h = {0, t};
+    REAL(GOMP_task)(run_task, &h, 0, sizeof h, sizeof t, deferred, flags, depend, priority, detach);
 }
 
 #define WAITS_FOR_TASKS(name, tasks) \
@@ -222,3 +229,4 @@ UNSEEN("doacross loops", GOMP_doacross_post)
 UNSEEN("target regions", GOMP_target)
 UNSEEN("target regions", GOMP_target_ext)
 UNSEEN("teams", GOMP_teams_reg)
+UNSEEN("events", omp_fulfill_event)

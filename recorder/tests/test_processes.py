@@ -132,7 +132,7 @@ class Processes(recorder.Case):
 
     def test_openmp_regions_that_are_not_seen_are_told_once_each(self):
         ran = recorder.must(recorder.call(self.program("openmp_unseen.c", "-fopenmp"), env=self.settings()))
-        self.assertEqual(ran.stderr, UNSEEN % b"teams" + UNSEEN % b"target regions")
+        self.assertEqual(ran.stderr, UNSEEN % b"teams" + UNSEEN % b"target regions" + UNSEEN % b"events")
 
     def test_openmp_of_clang_with_archer(self):
         if not shutil.which("clang") or not ARCHER:

@@ -1,7 +1,7 @@
 /* OpenMP: tasks, their waits and groups, ordered and single sections, dynamic loops, locks. */
 #include <omp.h>
 #include <stdlib.h>
-static long unordered, sum, taken, shown, from_group, by_lock, in_order, linked;
+static long rows[8], reduced, unordered, sum, taken, shown, from_group, by_lock, in_order, linked;
 static long fib(int n) {
     long a, b;
     if (n < 2) return n;
@@ -65,7 +65,15 @@ int main(void) {
             }
 #pragma omp single
             taken++;
+#pragma omp for reduction(task, + : reduced)
+            for (int i = 0; i < 8; i++) {
+                rows[i]++;
+#pragma omp task in_reduction(+ : reduced)
+                reduced++;
+            }
+#pragma omp for
+            for (int i = 0; i < 8; i++) rows[7 - i] += reduced;
         }
     }
-    return sum != 3 * 4 * 34 || by_lock != 12 || taken != 6 || from_group != 3 || linked != 6;
+    return sum != 3 * 4 * 34 || by_lock != 12 || taken != 6 || from_group != 3 || linked != 6 || rows[7] != 51;
 }
