@@ -72,7 +72,7 @@ PUBLIC int posix_memalign(void **result, size_t a, size_t n) {
 
 PUBLIC void *mmap(void *at, size_t n, int protection, int flags, int f, off_t offset) {
     void *p = (void *)syscall(SYS_mmap, at, n, protection, flags, f, offset);
-    return p == MAP_FAILED || protection == PROT_NONE ? p : allocated(p, n, CALLER);
+    return p == MAP_FAILED ? p : allocated(p, n, CALLER);
 }
 PUBLIC void *mmap64(void *, size_t, int, int, int, off_t) __attribute__((alias("mmap")));
 
