@@ -15,6 +15,7 @@ static int from_the_code_itself(int signal) {
 static __attribute__((noinline)) void call_in_frame(thread *t, int signal, siginfo_t *info, void *context) {
     uint64_t next = ((ucontext_t *)context)->uc_mcontext.gregs[REG_RIP];
     interrupted before = push_frame(t, next + 1, (uint64_t)call_in_frame + 1);
+    if (others) note(OP_WAIT, &handlers[signal], next + 1);
     handlers[signal].sa_sigaction(signal, info, context);
     pop_frame(t, &before);
 }
@@ -73,6 +74,7 @@ void watch_crashes(void) {
 PUBLIC int sigaction(int signal, const struct sigaction *new, struct sigaction *old) {
     int direct = new && new->sa_flags & SA_RESETHAND;       /* sent again it would meet no handler */
     if (!self || signal <= 0 || signal >= NSIG) return REAL(sigaction)(signal, new, old);
+    if (new && others) note(OP_POST, &handlers[signal], CALLER);
     struct sigaction before = handlers[signal], ours;
     if (new && !direct && new->sa_handler != SIG_DFL && new->sa_handler != SIG_IGN) {
         handlers[signal] = ours = *new;
