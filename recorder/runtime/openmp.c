@@ -8,6 +8,7 @@ typedef char object[16];               /* its address is what it is known by */
 typedef void (*function)(void *);
 typedef void (*copy_function)(void *, void *);
 typedef struct team {
+    void *reductions;                  /* first, as in the data of a region that has any */
     object begin, end, barrier, ordered, tasks, depend;
     function function;
     void *data;
@@ -65,6 +66,7 @@ static void end_region(team *m) {
     note(OP_WAIT, m->end, m->caller);
     note(OP_WAIT, m->tasks, m->caller);
     free(m);
+    KEEP_ORDER();                      /* so that is a call; by a jump it would be the program's own */
 }
 
 #define CALLED(name) REAL(name)(run_region, m, a, b, c, d, e, g)
@@ -77,7 +79,8 @@ static void end_region(team *m) {
     }
 #define REGION(name) REGION_BY(void, name, DONE(CALLED(name)))
 REGION(GOMP_parallel) REGION(GOMP_parallel_sections)
-REGION_BY(unsigned, GOMP_parallel_reductions, CALLED(GOMP_parallel_reductions))
+REGION_BY(unsigned, GOMP_parallel_reductions,
+          (m->reductions = *(void **)data, CALLED(GOMP_parallel_reductions)))
 REGION(GOMP_parallel_loop_static) REGION(GOMP_parallel_loop_dynamic) REGION(GOMP_parallel_loop_guided)
 REGION(GOMP_parallel_loop_nonmonotonic_dynamic) REGION(GOMP_parallel_loop_nonmonotonic_guided)
 REGION(GOMP_parallel_loop_runtime) REGION(GOMP_parallel_loop_nonmonotonic_runtime)

@@ -1,7 +1,7 @@
 /* OpenMP: tasks, their waits and groups, ordered and single sections, dynamic loops, locks. */
 #include <omp.h>
 #include <stdlib.h>
-static long rows[8], reduced, unordered, sum, taken, shown, from_group, by_lock, in_order, linked;
+static long rows[8], reduced, at_end, unordered, sum, taken, shown, from_group, by_lock, in_order, linked;
 static long fib(int n) {
     long a, b;
     if (n < 2) return n;
@@ -74,6 +74,14 @@ int main(void) {
 #pragma omp for
             for (int i = 0; i < 8; i++) rows[7 - i] += reduced;
         }
+#pragma omp parallel num_threads(4) reduction(task, + : reduced)
+#pragma omp single
+        for (int i = 0; i < 6; i++) {
+#pragma omp task in_reduction(+ : reduced)
+            reduced++;
+#pragma omp task depend(inout : at_end)
+            at_end++;
+        }
     }
-    return sum != 3 * 4 * 34 || by_lock != 12 || taken != 6 || from_group != 3 || linked != 6 || rows[7] != 51;
+    return sum != 3 * 4 * 34 || by_lock != 12 || taken != 6 || from_group != 3 || linked != 6 || rows[7] != 69 || reduced != 42 || at_end != 18;
 }
