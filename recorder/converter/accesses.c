@@ -1,5 +1,6 @@
 /* Accesses of memory: which blocks and pieces they use, and their events. */
 #include <stdio.h>
+#include <string.h>
 #include "converter.h"
 
 int whole_trace;
@@ -47,19 +48,6 @@ static void cut_access(const entry *e, u64 end) {
     cut(e->address, e->operation == OP_FREE ? e->address : end);
 }
 
-/* What is known of accesses of the same bytes that were met lately, as long as there is no new block. found:
-   0 of new ones. steps: those of ranges that it took. */
-typedef struct { u64 address, end, state; u32 found, steps; } recent_access;
-
-static recent_access *recent_access_of(u64 address, u64 end) {
-    enum { RECENT = 1 << 12 };
-    static recent_access recent[RECENT];
-    recent_access *a = &recent[(address ^ address / RECENT) % RECENT];
-    if (a->address != address || a->end != end || a->state != memory_state)
-        *a = (recent_access){.address = address, .end = end, .state = memory_state};
-    return a;
-}
-
 static int is_shared_block(const block *b) { return !b || b->users == SEVERAL; }
 
 static u32 find_blocks(const entry *e, u64 end) {
@@ -76,15 +64,9 @@ static u32 find_blocks(const entry *e, u64 end) {
 }
 
 void find_users(const entry *e) {
-    u64 end = end_of(e);
+    const u64 end = end_of(e);
     if (!known) known = zeroed(record_count, sizeof *known);
-    known_record *k = &known[e->number];
-    k->means_more = means_more(e);
-    if (end == e->address) return;
-    recent_access *a = recent_access_of(e->address, end);
-    k->accessed = a->found ? a->found : find_blocks(e, end);
-    if (a->found) note_caller(e->caller);
-    else if (is_shared_block(block_of(k->accessed - 1)) && e->operation != OP_FREE) a->found = k->accessed;
+    known[e->number] = (known_record){end == e->address ? 0 : find_blocks(e, end), means_more(e)};
 }
 
 /* ---- 2: cuts by what accessed a block before another thread did; what has one user alone is left ---- */
@@ -105,14 +87,14 @@ void find_earlier_cuts(void) {
 typedef struct { u32 thread; int writes, writes_atomically, reads; u64 own; u32 site; } use;
 
 static use use_of(const entry *e) {
-    int writes = e->operation == OP_WRITE || e->operation == OP_FREE || e->operation == OP_DESTROY;
-    return (use){.thread = e->thread, .writes = writes, .reads = e->operation == OP_READ,
+    enum { WRITES = 1 << OP_WRITE | 1 << OP_FREE | 1 << OP_DESTROY };
+    return (use){.thread = e->thread, .writes = WRITES >> e->operation & 1, .reads = e->operation == OP_READ,
                  .writes_atomically = is_atomic(e->operation) && e->operation != OP_ATOMIC_LOAD};
 }
 
 static int only_reads(const use *u) { return !u->writes && !u->writes_atomically; }
 
-static RARE void add_use(piece_use *p, const use *u, u32 number, u32 in_region) {
+static inline void add_use(piece_use *p, const use *u, u32 in_region) {
     if (in_region == APART) p->last = APART;
     else note_history(p, in_region);
     add_thread(&p->users, u->thread);
@@ -121,20 +103,22 @@ static RARE void add_use(piece_use *p, const use *u, u32 number, u32 in_region) 
     add_thread(&p->writers, u->thread);
     p->written |= u->writes;
     p->written_atomically |= u->writes_atomically;
-    if (u->writes_atomically && map_adds(&atomic_writers, number, u->thread))
-        add_to_list(&piece_of(number)->atomic_writers, u->thread);
 }
 
 /* Neighbours. Most uses are as the last one of the piece: by its thread, in the same region. */
-static inline void share_run(const entry *e, const use *u, u32 first, u32 count) {
-    const u32 in_region = u->reads || u->writes ? use_in_region(u->thread, u->writes) : APART;
+static inline void share_run(const entry *e, const use *u, u32 in_region, u32 first, u32 count) {
     piece_use *p = use_of_piece(first);
     for (u32 k = 0; k < count; k++) {
         p[k].uses += in_region != APART;
-        if (p[k].last != in_region || in_region == APART) add_use(&p[k], u, first + k, in_region);
+        if (p[k].last != in_region || in_region == APART) add_use(&p[k], u, in_region);
     }
+    if (only_reads(u)) return;
     piece *its = piece_of(first);
-    for (u32 k = 0; k < count && !only_reads(u); k++) its[k].last_write = e->number;
+    for (u32 k = 0; k < count; k++) {
+        its[k].last_write = e->number;
+        if (u->writes_atomically && map_adds(&atomic_writers, first + k, u->thread))
+            add_to_list(&its[k].atomic_writers, u->thread);
+    }
 }
 
 /* Neighbours mostly have numbers that follow each other: so an access has runs of these. */
@@ -152,41 +136,39 @@ static void add_to_runs(u64 from, u32 first, u32 count) {
     *PUSH(runs) = (run){.first = first, .count = count};
 }
 
+/* Several ones, from `from` on, are kept once, if the last that were met with the same begin are the same. */
+static RARE u64 kept_runs(u64 from) {
+    enum { RECENT = 4096 };
+    static u64 recent[RECENT];
+    u64 *last = &recent[runs.at[from].first % RECENT];
+    const u64 bytes = (runs.count - from) * sizeof *runs.at;
+    if (*last < from && !memcmp(&runs.at[*last], &runs.at[from], bytes)) runs.count = from;
+    else *last = from;
+    return *last;
+}
+
 /* Those of an access, as known_record has them. */
-static u32 find_pieces(u64 at, u64 end) {
-    const u64 from = runs.count;
-    u32 count, first = neighbours_at(&at, end, &count);
-    if (count == 1 && at == end) return first;
-    add_to_runs(from, first, count);
-    while (at < end) {
-        first = neighbours_at(&at, end, &count);
+static u32 share_all(const entry *e, const use *u) {
+    const u32 in_region = u->reads || u->writes ? use_in_region(u->thread, u->writes) : APART;
+    const u64 from = runs.count, end = end_of(e);
+    for (u64 at = e->address; at < end;) {
+        u32 count, first = neighbours_at(&at, end, &count);
+        share_run(e, u, in_region, first, count);
+        if (count == 1 && at == end && runs.count == from) return first;
         add_to_runs(from, first, count);
     }
     runs.at[runs.count - 1].is_last = 1;
-    return MOST_PIECES + 1 + from;
+    return MOST_PIECES + 1 + (runs.count > from + 1 ? kept_runs(from) : from);
 }
 
 static const run *runs_of(u32 found) { return &runs.at[found - MOST_PIECES - 1]; }
 
 void share_pieces(const entry *e) {
     const int may_be_unseen = is_plain(e->operation) || e->operation == OP_FREE;
-    if (!known[e->number].accessed) return;
-    if (may_be_unseen && is_unseen(e->caller)) {
-        known[e->number].accessed = 0;
-        return;
-    }
-    const u64 end = end_of(e), before = range_steps;
+    known_record *k = &known[e->number];
+    if (k->accessed && may_be_unseen && is_unseen(e->caller)) k->accessed = 0;
     const use u = use_of(e);
-    recent_access *a = recent_access_of(e->address, end);
-    if (a->found) range_steps += a->steps;
-    else {
-        a->found = find_pieces(e->address, end);
-        a->steps = range_steps - before;
-    }
-    known[e->number].accessed = a->found;
-    if (a->found <= MOST_PIECES) share_run(e, &u, a->found, 1);
-    else for (const run *r = runs_of(a->found); r; r = r->is_last ? 0 : r + 1)
-        share_run(e, &u, r->first, r->count);
+    if (k->accessed) k->accessed = share_all(e, &u);
 }
 
 piece *only_piece(const entry *e) {
@@ -291,7 +273,7 @@ static int may_have_events(const use *u, const piece_use *users) {
 /* An atomic write is a read of X, so that it conflicts with plain writes, and a write of a variable of X and
    its thread alone, which the plain reads of others read too: so it conflicts with these, and never with an
    atomic access. */
-static void piece_events(const entry *e, const use *u, u32 number, read_events *kept) {
+static inline void piece_events(const entry *e, const use *u, u32 number, read_events *kept) {
     const piece_use *users = use_of_piece(number);
     piece *p = piece_of(number);
     if (is_shared(users)) keep_event(kept, piece_event(e, u, number, u->writes ? "w" : "r", NOBODY));
@@ -311,24 +293,24 @@ static char word_of(const entry *e, const use *u) {
 
 /* `before`: so many events were written before those of the access. Of a local only an event has a name; of a
    block any access may tell it. */
-static void note_piece(const entry *e, const use *u, u32 number, u64 before) {
+static RARE void note_piece(const entry *e, const use *u, u32 number, u64 before) {
     const piece *p = piece_of(number);
     const block *b = block_of(p->block);
-    if (!with_stacks || (written == before && (!b || b->stack))) return;
+    if (written == before && (!b || b->stack)) return;
     note_name(p->at, p->block, before + 1, u->thread);
     if (e->operation == OP_FREE) return;
     note_use_of_block(p->at, p->block,
                       (use_of_block){e->address, accessed_bytes(e), e->caller, !only_reads(u)});
 }
 
-static void use_piece(const entry *e, use *u, u32 number) {
+static inline void use_piece(const entry *e, use *u, u32 number) {
     u64 before = written;
     int has_events = may_have_events(u, use_of_piece(number));
     if (has_events) find_own(e, u);
     if (has_events && only_reads(u) && !whole_trace) has_events = !repeats(e, u, number);
     note_visit(has_events);
     if (has_events) piece_events(e, u, number, 0);
-    note_piece(e, u, number, before);
+    if (with_stacks) note_piece(e, u, number, before);
 }
 
 /* What was omitted in the run's trace isn't in the page's, where the last read of its site stands for it. */
@@ -345,7 +327,7 @@ static void use_on_page(const entry *e, use *u, u32 number) {
     else for (; kept && kept->from < kept->end; kept->from++) note_repeated(kept->from);
     if (!is_kept) return;
     count_use(u->thread, e->caller, u->own, number, word_of(e, u));
-    note_piece(e, u, number, before);
+    if (with_stacks) note_piece(e, u, number, before);
 }
 
 static void use_variable(const entry *e, use *u, u32 number) {

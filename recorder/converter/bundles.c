@@ -96,10 +96,7 @@ void forget_phases(void) {
     EACH(b, bundles.at, bundles.count) begin_phase(b, 0);
 }
 
-u32 bundle_of(u32 number) {
-    u32 found = is_coarse ? use_of_piece(number)->sum : 0;
-    return found && !bundles.at[found - 1].is_apart ? found : 0;
-}
+u32 bundle_of(u32 number) { return is_coarse ? use_of_piece(number)->sum : 0; }
 
 int in_one_bundle(u32 first, u32 count) { return use_of_piece(first)->last >= count && bundle_of(first); }
 
@@ -113,7 +110,7 @@ static void write_last_use(user *u) {
     u->is_pending = 0;
 }
 
-void use_bundle(u32 number, u32 t, int writes, u64 caller) {
+static RARE void use_anew(u32 number, u32 t, int writes, u64 caller) {
     bundle *b = &bundles.at[number - 1];
     if (b->thread != t + 1) {
         b->thread = t + 1;
@@ -134,6 +131,14 @@ void use_bundle(u32 number, u32 t, int writes, u64 caller) {
     }
 }
 
+/* Most uses are like those before. */
+void use_bundle(u32 number, u32 t, int writes, u64 caller) {
+    const bundle *b = &bundles.at[number - 1];
+    const int is_in_phase = b->thread == t + 1 && (b->writer == t + 1 || !(b->writer || writes));
+    const user *u = is_in_phase ? &users.at[b->user - 1] : 0;
+    if (!u || b->phase != u->phase || !u->is_pending) use_anew(number, t, writes, caller);
+}
+
 void end_region(u32 t) {
     thread_state *s = &threads[t];
     EACH(k, s->pending.at, s->pending.count) write_last_use(&users.at[*k - 1]);
@@ -148,5 +153,9 @@ void refine(const map *names) {
         part name = variable_name(p->at, block_of(p->block));
         *(char *)mempcpy(text, name.at, name.length) = '~';
         b->is_apart |= map_find_bytes(names, text, name.length + 1) != 0;
+    }
+    for (u32 number = 1; number <= piece_count(); number++) {
+        const u32 found = bundle_of(number);
+        if (found && bundles.at[found - 1].is_apart) use_of_piece(number)->sum = 0;
     }
 }

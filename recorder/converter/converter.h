@@ -50,7 +50,7 @@ u64 size_of(const entry *e);
 static inline u64 late_context(const entry *e) { return e->its[-1].what % IS_REPEATED; }
 static inline int is_repeated(const entry *e) { return e->is_late && e->its[-1].where & IS_REPEATED; }
 void forget_before(u64 i);           /* the entries of the file */
-u64 depth_inside(const entry *e);      /* MOST_FRAMES where it is told by records before */
+u64 depth_inside(const struct record *r);          /* MOST_FRAMES where it is told by records before */
 void begin_thread_pass(void);
 /* each pass calls these for each fork and begin; 0 where there are too many threads */
 int meet_fork(const entry *e);
@@ -175,7 +175,6 @@ typedef struct {
 } piece_use;
 #define APART (-1u)
 enum { MOST_PIECES = (1u << 30) - 1 }; /* in accesses.c numbers of runs stand behind theirs */
-extern u64 memory_state;               /* it grows with each new block, and each pass */
 extern u64 range_steps;                /* in this pass: pages and pieces after the first of each range */
 void begin_memory_pass(void);
 /* it, or null; each pass calls it for each OP_ALLOC and OP_START: the newest block holds its addresses */

@@ -104,7 +104,7 @@ part variable_name(u64 address, const block *b) {
 
 /* The name of a piece, with WIDE bytes that may be read. Short ones are mostly found in a table of
    recent ones. */
-static part piece_name(u32 number) {
+static inline part piece_name(u32 number) {
     enum { RECENT = 1 << 16, SHORT = 59 };
     static struct { u32 piece; uint8_t length; char name[SHORT]; } recent[RECENT];
     static char long_name[NAME_BYTES + WIDE];
@@ -256,7 +256,7 @@ void bundle_event(u32 t, const char *operation, u32 number, u64 own) {
 }
 
 /* Most events are accesses inside a span by a thread that is in the trace: they take less than others. */
-u64 access_event(u32 t, const char *operation, u32 number, u64 caller, u64 own) {
+inline u64 access_event(u32 t, const char *operation, u32 number, u64 caller, u64 own) {
     part name = piece_name(number);
     int has_room = events < span_last && written < most.events;
     int is_usual = has_room && !threads[t].unwritten && has_events(t);

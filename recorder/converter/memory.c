@@ -23,7 +23,7 @@ typedef struct {
     u32 *slots;
 } page;
 
-u64 memory_state, range_steps;
+u64 range_steps;
 static VECTOR(block) blocks;
 static u64 met;                        /* how many blocks in this pass */
 static VECTOR(piece) pieces;
@@ -83,7 +83,7 @@ static void allot(u64 from, u64 end, u32 number) {
     }
 }
 
-u32 number_at(u64 address) {
+inline u32 number_at(u64 address) {
     const page *p = page_of(address, 0);
     if (!p) return 0;
     u32 grain = p->grains ? p->grains[address % PAGE / GRAIN] : 0;
@@ -108,7 +108,7 @@ void write_blocks(const char *path) {
     if (!file || fflush(file) || ferror(file) || fclose(file)) cannot_write(path);
 }
 
-u64 end_of_same(u64 from, u64 end) {
+inline u64 end_of_same(u64 from, u64 end) {
     if (end <= (from / GRAIN + 1) * GRAIN) return end;       /* most */
     const page *p = page_of(from, 0);
     u64 page_end = (from / PAGE + 1) * PAGE, stop = end < page_end ? end : page_end;
@@ -124,7 +124,6 @@ block *block_of(u32 number) { return number ? &blocks.at[number - 1] : 0; }
 
 void begin_memory_pass(void) {
     met = range_steps = 0;
-    memory_state++;
     EACH(p, pages.at, pages.numbers.count) {
         p->whole = 0;
         if (p->grains) memset(p->grains, 0, PAGE / GRAIN * sizeof *p->grains);
@@ -142,7 +141,6 @@ block *meet_block(const entry *e) {
         cut(from, end);
     }
     allot(from, end, met);
-    memory_state++;
     return &blocks.at[met - 1];
 }
 
@@ -151,7 +149,7 @@ static inline void cut_page(page *p, u64 byte) {
     p->stretches[byte / 64].cuts |= 1ull << byte % 64;
 }
 
-void cut(u64 first, u64 second) {
+inline void cut(u64 first, u64 second) {
     page *p = page_of(first, 1);
     cut_page(p, first % PAGE);
     cut_page(first / PAGE == second / PAGE ? p : page_of(second, 1), second % PAGE);
@@ -194,7 +192,7 @@ static RARE void make_pieces(u64 from, u64 cuts, u32 *slots) {
     }
 }
 
-u32 neighbours_at(u64 *cut, u64 end, u32 *count) {
+inline u32 neighbours_at(u64 *cut, u64 end, u32 *count) {
     u64 from = *cut, stop = (from / 64 + 1) * 64;
     page *p = page_of(from, 1);
     if (!p->slots) make_slots(p);

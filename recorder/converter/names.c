@@ -529,12 +529,15 @@ void find_places(void) {
     find_asked_places();
 }
 
-static place *found_place(u64 caller) {
-    place *p = place_at(caller_number(caller));
-    if (p->text) return p;
-    ask_for_lines(module_at(caller));
+static RARE place *place_of_late(place *p) {
+    ask_for_lines(module_at(p->caller));
     find_asked_places();
     return p;
+}
+
+static inline place *found_place(u64 caller) {
+    place *p = place_at(caller_number(caller));
+    return p->text ? p : place_of_late(p);
 }
 
 /* The place of a caller that was noted. */

@@ -111,9 +111,9 @@ inline entry entry_at(u64 i) {
 
 inline u64 size_of(const entry *e) { return size_in(e->its); }
 
-u64 depth_inside(const entry *e) {
-    const u64 inside = e->its->what >> 54;
-    u64 depth = is_plain(e->operation) && !(inside & IS_RANGE) ? inside >> LOGARITHM_BITS : DEPTH_BEFORE;
+u64 depth_inside(const struct record *r) {
+    const u64 inside = r->what >> 54;
+    u64 depth = is_access(r) && !(inside & IS_RANGE) ? inside >> LOGARITHM_BITS : DEPTH_BEFORE;
     return depth == DEPTH_BEFORE ? MOST_FRAMES : depth;
 }
 

@@ -194,13 +194,15 @@ static void meet_told(thread_calls *s, const entry *e) {
     if (e->operation == OP_PLACE) told_place = e->address;
     if (e->operation == OP_FRAME) meet_frame(s, e);
     if (e->operation == OP_CONTEXT) s->told = context_of(e);
+    if (e->operation != OP_WAY) has_place = e->operation == OP_PLACE;
 }
 
 /* What a thread is in by its last record. Without a file of stacks few records are asked for it. */
 static thread_calls *calls_of(u32 t) {
     thread_calls *s = &threads[t].calls;
     enter(s, s->now);
-    s->depth = s->inside < s->length ? s->inside : s->length;
+    const u64 inside = s->length ? depth_inside(s->its) : 0;
+    s->depth = inside < s->length ? inside : s->length;
     return s;
 }
 
@@ -211,11 +213,11 @@ void meet_call(const entry *e) {
     if (e->operation == OP_NAME) return;
     s->way = has_way == e->number && !e->is_late ? told_way : 0;
     if (is_of_calls) meet_told(s, e);
-    if (e->operation != OP_WAY) has_place = e->operation == OP_PLACE;
+    else has_place = 0;
     if (e->operation == OP_START) s->end = e->address + size_of(e);
     s->now = e->is_late ? context_of(e) : s->told;
     s->caller = is_of_calls ? 0 : e->caller;
-    s->inside = depth_inside(e);
+    s->its = e->its;
     if (!with_stacks) return;
     enter(s, s->told);
     calls_of(t);
@@ -229,8 +231,7 @@ static u64 own_of(u64 caller, u64 way, const call *outer) {
     return outer ? outer->own : 0;
 }
 
-u64 own_place(u32 t, u64 caller) {
-    if (is_own_place(caller)) return caller;
+static RARE u64 own_outer_place(u32 t, u64 caller) {
     thread_calls *s = calls_of(t);
     for (; s->owned < s->depth; s->owned++) {
         call *c = &s->calls.at[s->owned];
@@ -239,6 +240,8 @@ u64 own_place(u32 t, u64 caller) {
     u64 own = own_of(caller, s->way, s->depth ? &s->calls.at[s->depth - 1] : 0);
     return own ? own : caller;
 }
+
+inline u64 own_place(u32 t, u64 caller) { return is_own_place(caller) ? caller : own_outer_place(t, caller); }
 
 static node *node_at(u32 number) { return &nodes.at[number - 1]; }
 
@@ -274,7 +277,7 @@ static u32 node_now(u32 t, u64 caller) {
     return s->last;
 }
 
-u32 stack_at(u32 t, u64 caller) { return with_stacks ? node_now(t, caller) : 0; }
+inline u32 stack_at(u32 t, u64 caller) { return with_stacks ? node_now(t, caller) : 0; }
 
 void begin_calls(int has_stacks) {
     has_place = 0;

@@ -21,11 +21,11 @@ typedef struct {
     /* the outermost first; behind `length` are those that were met before */
     VECTOR(call) calls;
     u32 known, owned;                  /* of how many of the first the node is known, and the own place */
-    /* its context by the records before; that of the present one, with in how many of its functions that is;
-       that of `calls`, with its depth */
-    u32 told, now, inside, in, length;
-    u32 depth;                         /* of the present record */
-    u64 way, caller;                   /* of the present one */
+    /* its context by the records before; that of the present one; that of `calls`, with its depth */
+    u32 told, now, in, length;
+    u32 depth;                         /* of the present record: in so many functions of its context */
+    const struct record *its;          /* the present one */
+    u64 way, caller;                   /* of it */
     u64 end;                           /* of its stack */
     VECTOR(foreign) foreign;           /* since its last record */
     u64 records;

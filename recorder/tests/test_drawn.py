@@ -279,8 +279,6 @@ FAULTS = {  # to plant in the converter: the file, what stands there, and what i
                 "if (u->writes_atomically && users->readers == SEVERAL) {"),
     "reuse": ("memory.c", "return grain > p->whole ? grain : p->whole;",
               "return grain ? 1 : p->whole;"),
-    "what was found is kept for a new block": ("memory.c", "    memory_state++;\n    return &blocks",
-                                               "    return &blocks"),
     "what was used before others did is cut no more": ("accesses.c", "else if (b && i < b->shared_at) {",
                                                        "else if (0) {"),
     "a write after a read is the same use": ("bundles.c", "s->region * 2 + (writes ? WRITES : 0)",
