@@ -205,6 +205,23 @@ class Decided(recorder.Case):
         path.write_bytes(HEADER + b"".join(entry(*step) for step in steps))
         self.assertEqual(found(path, recorder.BUILT / "shb-std"), ({(0x103, 0x303): {(0, cell)}}, 1))
 
+    def test_a_read_of_a_finer_trace_repeats_none_of_a_coarse_one(self):
+        """The thread's first read in the second trace is as its last one in the first, and has a race of its
+        own, with the write that came between the two."""
+        path, cell, other = self.folder / "app.rec", 0x5000, 0x5100
+        steps = [*(Step(0, "FORK", child, 0x100 + child) for child in (1, 2, 3)),
+                 Step(1, "ATOMIC_LOAD", cell, 0x201, 4), Step(0, "WRITE", cell, 0x104, 4),
+                 Step(0, "WRITE", other, 0x105, 4), Step(1, "READ", other, 0x202, 4),
+                 Step(1, "ATOMIC_LOAD", cell, 0x201, 4), Step(2, "ATOMIC_STORE", cell, 0x301, 4),
+                 *(Step(thread, "WRITE", 0x100000 + k, 0x402, 1) for thread in (2, 3) for k in range(40))]
+        path.write_bytes(HEADER + b"".join(entry(*step) for step in steps))
+        wanted = Analysis(steps).races
+        self.assertIn((0x201, 0x104), wanted)
+        for fault, is_right in ((), True), (("records.c", "        s->epoch++;\n", ""), False):
+            converter = test_open.planted(self.folder / f"epoch{is_right}", *fault)
+            races, traces = found(path, converter)
+            self.assertEqual((differs(wanted, races) is None, traces), (is_right, 2))
+
     def test_a_record_that_is_read_a_few_entries_at_a_time(self):
         few = test_open.planted(self.folder / "few", "records.c", "AT_ONCE = 1 << 16", "AT_ONCE = 3")
         for seed in range(50):
