@@ -242,6 +242,9 @@ def run_all(look):
     if options.replay and not look.has_replayed:
         raise Refused(f"{options.replay} belongs to `{options.turns.command}`, and no recorded process was "
                       "that: nothing was replayed")
+    if look.modules.has_no_hooks():
+        raise Refused("none of the recorded code was compiled with -fsanitize=thread, so no access was seen: "
+                      "the flag is needed to compile, not to link alone (CFLAGS, CXXFLAGS)")
 
 
 def source_of(options, folder):

@@ -47,6 +47,10 @@ class Modules:
         """All that is told of this in modules."""
         return {name for path in paths for name in self.kinds[path][what]}
 
+    def has_no_hooks(self):
+        """Whether there is code, and none of it has hooks."""
+        return 0 < len(self.kinds) == len(self.those(b"bare"))
+
     def lines(self):
         """A line on each kind of code of which less is seen. Modules that recorded code calls, or that call
         it, come first."""

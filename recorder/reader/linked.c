@@ -16,9 +16,10 @@ static Elf_Data *next_of(Elf *elf, GElf_Word type, Elf_Scn **section, GElf_Shdr 
 }
 
 /* Tells symbols of a table as `what`, unless that is null: of .symtab the source files, of .dynsym what the
-   module exports. Returns whether it calls what code with hooks calls first; a library of hooks has that. */
+   module exports. Returns whether it calls hooks, which a library of hooks has. What gcc adds to a program
+   that is linked with them calls the first one; its own code may have been compiled without. */
 static int tell_symbols(Elf *elf, GElf_Word table, const char *what) {
-    int has_hooks = 0;
+    int has_hooks = 0, is_program = has_section(elf, ".interp");
     Elf_Scn *section = 0;
     GElf_Shdr header;
     GElf_Sym s;
@@ -28,7 +29,7 @@ static int tell_symbols(Elf *elf, GElf_Word table, const char *what) {
         const char *name = elf_strptr(elf, header.sh_link, s.st_name);
         if (!name || !*name) continue;
         if (what && (table == SHT_SYMTAB ? is_file : is_here)) tell(what, name);
-        has_hooks |= !is_here && !strcmp(name, "__tsan_init");
+        has_hooks |= !is_here && !strncmp(name, "__tsan_", 7) && (!is_program || strcmp(name, "__tsan_init"));
     }
     return has_hooks;
 }

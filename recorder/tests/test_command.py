@@ -111,6 +111,16 @@ int main(int count, char **words) {
                              said)
             self.assertIn("counter_race.c:8\t", text_of(self.folder / "host.shb" / "places.tsv"))
 
+    def test_a_program_that_is_only_linked_with_the_flag(self):
+        """That nothing was found says nothing: no access was seen. One with a thread alone is as before."""
+        recorder.must(recorder.call("gcc", "-w", "-g", "-c", recorder.PROGRAMS / "status.c", cwd=self.folder))
+        recorder.must(recorder.call("gcc", "-fsanitize=thread", "status.o", "-o", "app", cwd=self.folder))
+        for more, wanted in ((), 125), (("--runs", "2"), 125), (("--live",), 125):
+            status, _, said = self.record(*more, "./app", "0", "race")
+            self.assertEqual((status, said.count("none of the recorded code was compiled with "
+                                                 "-fsanitize=thread, so no access was seen")), (wanted, 1),
+                             said)
+
     def test_a_module_with_hooks_that_a_program_opens(self):
         """No file tells that before; the command that records it is named."""
         program, library = self.host()

@@ -60,6 +60,15 @@ class Linked(recorder.Case):
         kind = modules.told(os.fsencode(self.program), "kind")
         self.assertEqual(set(kind), {b"hooked", b"nameless", b"program", b"library"})
 
+    def test_a_program_that_is_only_linked_with_the_flag(self):
+        """What gcc adds to it calls the hook that comes first."""
+        program = self.folder / "linked"
+        self.compile("g++", PROGRAM, "-g", "-c", "-o", self.folder / "use.o")
+        recorder.must(recorder.call("g++", "-fsanitize=thread", self.folder / "use.o", self.library, "-o",
+                                    program))
+        self.assertEqual(set(modules.told(os.fsencode(program), "kind")),
+                         {b"bare", b"program", b"library", b"file"})
+
     def test_exports(self):
         """Neither its own functions nor those that it calls."""
         found = names(self.library, "calls", b"export")
