@@ -7,7 +7,7 @@ import os
 import subprocess
 
 from shb_common.locations import bare
-from shb_common.words import printable
+from shb_common.words import counted, printable
 from shb_record.parts import LIBRARY, READER
 
 # The C library's own, whose functions the recorder stands for, the loader, the C++ library, whose templates
@@ -18,6 +18,7 @@ LOADERS = b"linux-vdso", b"linux-gate", b"ld-linux", b"ld-musl"
 # what of it isn't recorded is known by the calls, so it may stand in call stacks
 STOOD_FOR = (b"libgomp.so",)
 ORDERS_NOTHING = b"omp_get_"
+COMPILED = b"compiled with hooks", b"compiled without hooks"    # gcc's files of modules with hooks
 MOST_NAMED = 6
 MOST_TOLD = 64 << 20    # bytes of what is told of a module
 LOADER = "/lib64/ld-linux-x86-64.so.2"
@@ -60,6 +61,10 @@ class Modules:
         if without:
             yield (f"Code without -fsanitize=thread isn't seen: {named(without, called)}. Nor are its locks "
                    "and queues: races of what these order are false. Build it with the flag.")
+        with_hooks, bare_files = (sum((its[what] for its in self.kinds.values()), []) for what in COMPILED)
+        if bare_files:
+            yield (f"Compiled without -fsanitize=thread, so not seen: {named(bare_files, ())} "
+                   f"({len(bare_files):,} of {counted(len(with_hooks + bare_files), 'file')}).")
         if rust:
             yield (f"Rust's own library in {named(rust, called)} has no hooks: what its locks, channels and "
                    "scopes order isn't seen, and races of that are false. Build it with the program "

@@ -45,6 +45,39 @@ static void tell_libraries(Elf *elf) {
     }
 }
 
+/* Do gcc's flags ask for hooks? The last one of them says. */
+static int asks_for_hooks(const char *flags) {
+    static const char flag[] = "sanitize=";
+    int asks = 0;
+    for (const char *at = flags; (at = strstr(at, flag)); at += strlen(flag)) {
+        size_t length = strcspn(at, " ");
+        int is_of_threads = memmem(at, length, "thread", 6) || memmem(at, length, "all", 3);
+        if (is_of_threads) asks = strncmp(at - 3, "no-", 3) != 0;
+    }
+    return asks;
+}
+
+static int has_any(const char *text, const char *const *parts) {
+    while (*parts && !strstr(text, *parts)) parts++;
+    return *parts != 0;
+}
+
+/* Tells which source files gcc compiled with hooks and which without: it writes its flags behind its name.
+   Others' aren't known, and gcc's own parts of a program aren't told. */
+static void tell_compiled(struct debug *d) {
+    static const char *const others[] = {"GNU AS", "GNU GIMPLE", 0};
+    static const char *const own[] = {"libsanitizer/", "libgcc/", 0};
+    read_units(d);
+    EACH(u, d->units.at, d->units.count) {
+        Dwarf_Attribute a;
+        const char *by = dwarf_formstring(dwarf_attr(&u->whole, DW_AT_producer, &a));
+        const char *name = dwarf_formstring(dwarf_attr(&u->whole, DW_AT_name, &a));
+        int has_flags = by && !strncmp(by, "GNU ", 4) && strstr(by, " -m") && !has_any(by, others);
+        if (has_flags && name && !has_any(name, own))
+            tell(asks_for_hooks(by) ? "compiled with hooks" : "compiled without hooks", basename(name));
+    }
+}
+
 void tell_kind(struct debug *d) {
     static const char rust[] = "/rustc/";      /* the folder that its library's sources are said to be in */
     Elf *elf = own_file(d);
@@ -55,6 +88,7 @@ void tell_kind(struct debug *d) {
     tell(has_hooks ? "hooked" : "bare", "");
     if (has_hooks && !has_section(elf, ".debug_info") && !has_section(elf, ".gnu_debuglink"))
         tell("nameless", "");
+    if (has_hooks) tell_compiled(d);
     if (has_hooks && memmem(content, size, rust, strlen(rust))) tell("rust", "");
     if (has_section(elf, ".interp")) tell("program", "");
     tell_libraries(elf);

@@ -52,7 +52,7 @@ class Linked(recorder.Case):
         self.assertEqual(set(kind), {b"bare", b"file"})
         self.assertIn(b"box.c", kind[b"file"])
         kind = modules.told(os.fsencode(self.program), "kind")
-        self.assertEqual(set(kind), {b"hooked", b"program", b"library", b"file"})
+        self.assertEqual(set(kind), {b"hooked", b"compiled with hooks", b"program", b"library", b"file"})
         self.assertIn(b"use.cc", kind[b"file"])
         self.assertLessEqual({b"libbox.so", b"libtsan.so.2", b"libc.so.6"}, set(kind[b"library"]))
         recorder.must(recorder.call("strip", self.program))
@@ -68,6 +68,26 @@ class Linked(recorder.Case):
                                     program))
         self.assertEqual(set(modules.told(os.fsencode(program), "kind")),
                          {b"bare", b"program", b"library", b"file"})
+
+    def test_files_that_were_compiled_without_the_flag(self):
+        """gcc says so of each file. One of which nothing is said isn't named, nor is assembler."""
+        for name, text in ("box.c", LIBRARY), ("box.s", ".globl box_put\nbox_put: ret\n"):
+            (self.folder / name).write_text(text)
+        for name, words, wanted in (
+                ("box.c", (), [b"box.c"]), ("box.c", ("-fsanitize=thread", "-fno-sanitize=all"), [b"box.c"]),
+                ("box.c", ("-fsanitize=undefined", "-gsplit-dwarf"), [b"box.c"]),
+                ("box.c", ("-fsanitize=undefined,thread",), []),
+                ("box.c", ("-fsanitize=thread", "-flto"), []),
+                ("box.c", ("-gno-record-gcc-switches",), []), ("box.s", (), [])):
+            with self.subTest(words):
+                recorder.must(recorder.call("gcc", "-g", *words, "-c", name, "-o", "more.o",
+                                            cwd=self.folder))
+                self.build("more.o", "-lubsan")
+                self.assertEqual(names(self.program, "kind", b"compiled without hooks"), wanted)
+                its = modules.Modules()
+                its.add([os.fsencode(self.program)])
+                self.assertEqual(list(its.lines()), ["Compiled without -fsanitize=thread, so not seen: box.c "
+                                                     "(1 of 2 files)."] * len(wanted))
 
     def test_exports(self):
         """Neither its own functions nor those that it calls."""
