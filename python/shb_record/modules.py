@@ -58,9 +58,11 @@ class Modules:
         without, rust, nameless = map(self.those, (b"bare", b"rust", b"nameless"))
         called = self.names(b"library", self.those(b"hooked"))
         called |= {name for file, name in self.stand_for(self.kinds) if file in self.callers}
+        without = [path for path in without if not os.path.basename(path).startswith(STOOD_FOR)]
         if without:
-            yield (f"Code without -fsanitize=thread isn't seen: {named(without, called)}. Nor are its locks "
-                   "and queues: races of what these order are false. Build it with the flag.")
+            yield (f"Code without -fsanitize=thread isn't seen: {named(without, called)}. Its POSIX and C++ "
+                   "locks are; what its own atomics or futexes order may be a false race. Build it with the "
+                   "flag.")
         with_hooks, bare_files = (sum((its[what] for its in self.kinds.values()), []) for what in COMPILED)
         if bare_files:
             yield (f"Compiled without -fsanitize=thread, so not seen: {named(bare_files, ())} "

@@ -176,7 +176,7 @@ def told_of(section):
     behind = [["Found behind known races, which were skipped: real if these are harmless."]]
     unseen = [["Perhaps ordered: code of both sides calls, or is called by, ",
                *listed([[Code(module)] for module in section.unseen], MOST_SOME),
-               ", whose locks and queues aren't seen."]] * bool(section.unseen)
+               ", whose own atomics and futexes aren't seen."]] * bool(section.unseen)
     return [*behind * section.is_behind, *unseen, *section.fact.sentences,
             *[["Remedy: ", *section.fact.remedy]] * bool(section.fact.remedy)]
 

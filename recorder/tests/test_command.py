@@ -570,8 +570,9 @@ int main(int count, char **words) {
         status, _, said = self.record("./app")
         self.assertEqual(status, 0, said)
         self.assertEqual(said.splitlines()[-3:], ["shb-record: Code without -fsanitize=thread isn't seen: "
-                                                  "libbare.so. Nor are its locks and queues: races of what "
-                                                  "these order are false. Build it with the flag.",
+                                                  "libbare.so. Its POSIX and C++ locks are; what its own "
+                                                  "atomics or futexes order may be a false race. Build it "
+                                                  "with the flag.",
                                                   "shb-record: Without debug information (-g) locations are "
                                                   "addresses: libnameless.so.", ONE])
         status, _, said = self.record("--runs", "2", "./app")
@@ -583,8 +584,8 @@ int main(int count, char **words) {
                                     "./libbare.so", "./libnameless.so", cwd=self.folder))
         self.assertEqual(self.record("./app")[0], 66)
         page, = (self.folder / "app.shb").glob("run*.html")
-        for line in ("Code without -fsanitize=thread isn&#x27;t seen: libbare.so. Nor are its locks and "
-                     "queues: ", "Without debug information (-g) locations are addresses: libnameless.so.",
+        for line in ("Code without -fsanitize=thread isn&#x27;t seen: libbare.so. Its POSIX and C++ locks "
+                     "are; ", "Without debug information (-g) locations are addresses: libnameless.so.",
                      "One interleaving of many was seen; --runs N tries others, --until-found N stops at the "
                      "first with a race."):
             self.assertIn(line, text_of(page))

@@ -85,6 +85,26 @@ class Libraries(recorder.Case):
         self.assertEqual(recorder.places(trace), set())
         self.assertRegex(trace, rb"\nT1\|acq\(.*\nT1\|r\(.*\nT1\|w\(.*\nT1\|rel\(")
 
+    def test_locks_of_code_without_the_flag(self):
+        """They are POSIX's, and are seen. gcc's OpenMP isn't named, for what it orders is recorded."""
+        texts = {"locked.c": "#include <pthread.h>\nstatic pthread_mutex_t m = PTHREAD_MUTEX_INITIALIZER;\n"
+                             "void enter(void) { pthread_mutex_lock(&m); }\n"
+                             "void leave(void) { pthread_mutex_unlock(&m); }\n",
+                 "count.c": "void enter(void), leave(void);\nlong count, sum;\nint main(void) {\n"
+                            "#pragma omp parallel for reduction(+:sum) num_threads(3)\n"
+                            "    for (int k = 0; k < 30; k++) {\n        enter();\n        count++;\n"
+                            "        leave();\n        sum += k;\n    }\n    return sum != 435;\n}\n"}
+        for name, text in texts.items():
+            (self.folder / name).write_text(text)
+        for words in (["-shared", "-fPIC", "locked.c", "-o", "liblocked.so"],
+                      ["-fsanitize=thread", "-fopenmp", "count.c", "./liblocked.so", "-o", "count"]):
+            recorder.must(recorder.call("gcc", "-g", "-O1", *words, cwd=self.folder))
+        ran = recorder.call(recorder.COMMAND, "--runs", "3", "./count", cwd=self.folder,
+                            env={**os.environ, "SHB": str(recorder.SHB)})
+        said = ran.stderr.decode()
+        self.assertEqual((ran.returncode, "isn't seen: liblocked.so. Its POSIX and C++ locks are;" in said,
+                          "libgomp" in said), (0, True, False), said)
+
     def test_perhaps_ordered(self):
         """A library without hooks hands a block on, and both sides call it: the race is marked. One of a
         thread that doesn't call it isn't."""
@@ -101,7 +121,7 @@ class Libraries(recorder.Case):
         [page] = (self.folder / "out").glob("run*.html")
         for shown in (said, html.unescape(page.read_text())):
             self.assertEqual(shown.count("Perhaps ordered: code of both sides calls, or is called by, "
-                                         "libbox.so, whose locks and queues aren't seen."), 1)
+                                         "libbox.so, whose own atomics and futexes aren't seen."), 1)
         self.assertEqual(page.read_text().count('class="tag perhaps"'), 1)
 
     def test_perhaps_ordered_in_a_class(self):
