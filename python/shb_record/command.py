@@ -90,6 +90,9 @@ def parser_of_words():
                         help="write to this file what otherwise goes to standard error, which then is the "
                         "program's alone")
     parser.add_argument("--keep", action="store_true", help="keep the records (16 bytes per access)")
+    parser.add_argument("--verify", action="store_true",
+                        help="find the races once more, in a trace that omits nothing, and end with status "
+                        "125 if they differ. It takes about as long again")
     parser.add_argument("words", metavar="PROGRAM", nargs=argparse.REMAINDER,
                         help="the program, and the words that it is given")
     return parser

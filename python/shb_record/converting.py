@@ -15,7 +15,7 @@ from shb_common.children import apart
 from shb_common.files import remove
 from shb_common.report import BadReport, Report
 from shb_common.sums import sha256
-from shb_common.words import Refused, counted
+from shb_common.words import Refused, counted, printable
 from shb_record.parts import ANALYSER, CONVERTER, files_in
 
 CUTS = "the recording is not the whole run: ", "the trace is cut "
@@ -155,6 +155,7 @@ class Conversion:
         blocks = ["--blocks", process.blocks] if process.blocks else []
         left = ["--left", process.beside(".left")] if options.live else []  # blocks at its end
         self.window, self.has_known = options.window, options.known_path is not None
+        self.is_verified = options.verify
         self.list_words = [CONVERTER, "--list", *strip, *blocks, process.record]
         self.page_words = [*strip, *blocks, "-n", str(options.window), process.record]
         self.words = [CONVERTER, "--list", "--only", "/dev/stdin", "--page", self.trace, "--uses", self.uses,
@@ -191,8 +192,29 @@ class Conversion:
             if fault and answer.status in (0, NOT_WHOLE, -signal.SIGPIPE):
                 raise type(fault)(f"{self.process.name}: {fault}")
             self.end(answer)
+        if self.is_verified:
+            self.verify()
         if chosen:
             self.note_page(chosen)
+
+    def verify(self):
+        """Finds the places again, in a trace that omits nothing and has no bundles: they are the same. It may
+        have a variable in more pieces, so it has the others' names, and perhaps more."""
+        words = [self.words[0], "-a", *self.list_words[1:]]
+        with contextlib.closing(Listing(open(self.process.beside(".verified"), "w+b"))) as listed, \
+                Run(words, None, listed.descriptor, **apart()) as ran:
+            listed.begun()
+            again = listed.places()
+            self.said(ran.answer())
+        found, wanted = ({(place.first, place.second): place.variables.keys() for place in its}
+                         for its in (self.places, again))
+        differ = [place for place in sorted(found.keys() | wanted.keys())
+                  if place not in found or not found[place] <= wanted.get(place, set())]
+        for first, second in differ[:1]:
+            where = "that omits nothing" if (first, second) not in found else "of the run"
+            raise Contradiction(f"{self.process.name}: --verify: only the trace {where} has this race at "
+                                f"{printable(first)} and {printable(second)}; "
+                                f"{counted(len(differ), 'such place')}")
 
     def take_places(self, listed, ran, finer):
         """Takes the places of the run. In a coarse trace variables that are used alike are one, a bundle. As
@@ -255,16 +277,20 @@ class Conversion:
             self.end(ran.answer())
         self.note_page(places)
 
-    def end(self, answer):
-        status = answer.status
+    def said(self, answer):
+        """What the converter said, in lines, if it didn't fail."""
         said = answer.said.decode(errors="backslashreplace").replace("shb-std: ", "").splitlines()
-        if status not in (0, NOT_WHOLE):
-            how = f"status {status}" if status > 0 else f"signal {-status}"
+        if answer.status not in (0, NOT_WHOLE):
+            how = f"status {answer.status}" if answer.status > 0 else f"signal {-answer.status}"
             raise Refused(f"{self.process.name}: {'; '.join(said) or f'shb-std ended with {how}'}")
+        return said
+
+    def end(self, answer):
+        said = self.said(answer)
         sizes = [line for line in said if re.match(r"\d+ records, ", line)]
         self.size = ", ".join(re.sub(r"\d+", lambda number: f"{int(number[0]):,}", line) for line in sizes)
         self.notes = [line for line in said if line not in sizes]
-        self.cuts = [note for note in self.notes if note.startswith(CUTS)] if status == NOT_WHOLE else []
+        self.cuts = [note for note in self.notes if note.startswith(CUTS)] * (answer.status == NOT_WHOLE)
 
 
 def has_writer(pipe):

@@ -44,7 +44,7 @@ class Bundles(recorder.Case):
                                     self.folder / "give.c", "-o", self.folder / "give"))
         how = recorder.settings("unused", SHB=str(recorder.SHB))
         del how["SHB_RECORD"]
-        ran = recorder.call(recorder.COMMAND, "-o", "out", *words, self.folder / "give", env=how,
+        ran = recorder.call(recorder.COMMAND, "-o", "out", "--verify", *words, self.folder / "give", env=how,
                             cwd=self.folder)
         self.assertEqual(ran.returncode, 66 if racing or not words else 0, ran.stderr)
         found = json.loads((self.folder / "out" / "places.json").read_text())["places"]

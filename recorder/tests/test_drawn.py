@@ -139,10 +139,11 @@ def listed(path, converter):
                                         input=trace)).stdout)).races())
 
 
-def found(path, converter):
+def found(path, converter, is_verified=False):
     """The same as shb-record finds it, by a coarse trace first; with the page's trace of all places. Besides,
     how many traces it took."""
-    options = types.SimpleNamespace(strip=None, live=False, window=4_194_304, known_path=None)
+    options = types.SimpleNamespace(strip=None, live=False, window=4_194_304, known_path=None,
+                                    verify=is_verified)
     conversion = converting.Conversion(converting.Process("", "", "", path, []), options)
     conversion.words[0], taken, take = converter, [], conversion.take
     conversion.take = lambda listing: taken.append(listing) or take(listing)
@@ -182,7 +183,7 @@ class Decided(recorder.Case):
         converter = bundling(self.folder / "bundling")
         for seed in range(150):
             wanted, path = draw_record(self.folder, seed)
-            races, count = found(path, converter)
+            races, count = found(path, converter, seed % 3 == 0)
             self.assertIsNone(differs(wanted, races), seed)
             traces.add(count)
         self.assertEqual(traces, {1, 2, 3})
@@ -221,6 +222,9 @@ class Decided(recorder.Case):
             converter = test_open.planted(self.folder / f"epoch{is_right}", *fault)
             races, traces = found(path, converter)
             self.assertEqual((differs(wanted, races) is None, traces), (is_right, 2))
+        said = "only the trace that omits nothing has this race at 0x201 and 0x104; 1 such place"
+        with self.assertRaisesRegex(converting.Contradiction, said):
+            found(path, converter, True)
 
     def test_a_record_that_is_read_a_few_entries_at_a_time(self):
         few = test_open.planted(self.folder / "few", "records.c", "AT_ONCE = 1 << 16", "AT_ONCE = 3")
