@@ -24,6 +24,17 @@ PUBLIC size_t malloc_usable_size(void *p) {
     return usable_size ? usable_size(p) : 0;
 }
 
+/* A block of the heap. All of it is new, also behind its size, if the program may ask how large it is. */
+int uses_whole_blocks;
+static void *given(void *p, size_t n, uint64_t caller) {
+    enum { GRAIN = 16 };               /* as the converter has it */
+    allocated(p, n, caller);
+    size_t known = ((n ? n : 1) + GRAIN - 1) & -GRAIN;
+    size_t whole = uses_whole_blocks && usable_size && p ? usable_size(p) : 0;
+    if (whole > known) allocated((char *)p + known, whole - known, caller);
+    return p;
+}
+
 /* As many bytes of a block are written by its free. */
 static size_t bytes_freed(void *p) {
     enum { MOST_FREED = 1024 };
@@ -39,11 +50,11 @@ static void will_free(void *p, uint64_t caller) {
     if (is_free_seen(p, caller)) note_bytes(MAY_YIELD, OP_FREE, p, bytes_freed(p), caller);
 }
 
-PUBLIC void *malloc(size_t n) { return allocated(__libc_malloc(n), n, CALLER); }
-PUBLIC void *calloc(size_t k, size_t n) { return allocated(__libc_calloc(k, n), k * n, CALLER); }
-PUBLIC void *memalign(size_t a, size_t n) { return allocated(__libc_memalign(a, n), n, CALLER); }
-PUBLIC void *aligned_alloc(size_t a, size_t n) { return allocated(__libc_memalign(a, n), n, CALLER); }
-PUBLIC void *valloc(size_t n) { return allocated(__libc_memalign(getpagesize(), n), n, CALLER); }
+PUBLIC void *malloc(size_t n) { return given(__libc_malloc(n), n, CALLER); }
+PUBLIC void *calloc(size_t k, size_t n) { return given(__libc_calloc(k, n), k * n, CALLER); }
+PUBLIC void *memalign(size_t a, size_t n) { return given(__libc_memalign(a, n), n, CALLER); }
+PUBLIC void *aligned_alloc(size_t a, size_t n) { return given(__libc_memalign(a, n), n, CALLER); }
+PUBLIC void *valloc(size_t n) { return given(__libc_memalign(getpagesize(), n), n, CALLER); }
 
 PUBLIC void free(void *p) {
     will_free(p, CALLER);
@@ -59,12 +70,12 @@ PUBLIC void *realloc(void *p, size_t n) {
     if (t) t->inside = 1;
     if (t && (new || !n) && keep_turn(t)) put(t, OP_FREE, p, bytes, CALLER);
     if (t) leave(t);
-    return allocated(new, n, CALLER);
+    return given(new, n, CALLER);
 }
 
 PUBLIC int posix_memalign(void **result, size_t a, size_t n) {
     if (a % sizeof(void *) || !a || a & (a - 1)) return EINVAL;
-    void *p = allocated(__libc_memalign(a, n), n, CALLER);
+    void *p = given(__libc_memalign(a, n), n, CALLER);
     if (!p) return ENOMEM;
     *result = p;
     return 0;
@@ -112,7 +123,7 @@ static void *called_new(new_function real, size_t n, size_t align, const void *n
     void *p = is_others ? 0 : align ? __libc_memalign(align, n ? n : 1) : __libc_malloc(n ? n : 1);
     if (!p && real) return real(n, align ? align : (size_t)nothrow, nothrow);
     if (!p && !nothrow) abort();
-    return allocated(p, n, caller);
+    return given(p, n, caller);
 }
 
 #define NEW(name, parameters, align, nothrow) \

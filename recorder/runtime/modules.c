@@ -29,26 +29,34 @@ static void note_module(struct dl_phdr_info *info, struct module m) {
     note_text(line);
 }
 
-/* In C is what takes nothing of C++, unwinds no stack, and uses no liburcu, whose headers nest functions. */
-enum language { WITHOUT_HOOKS, IN_OTHERS, IN_C };
-static enum language told_by(const void *strings, uint64_t size) {
-    static const char *const others[] = {"\0_Z", "\0__gxx_", "\0_Unwind_", "\0urcu_"};
-    for (unsigned k = 0; k < sizeof others / sizeof *others; k++)
-        if (memmem(strings, size, others[k], 1 + strlen(others[k] + 1))) return IN_OTHERS;
-    return IN_C;
+/* The names that a module gives others or takes of them; each is behind a byte 0. */
+typedef struct { const char *at; uint64_t size; } names;
+static names names_of(struct dl_phdr_info *info) {
+    names its = {0};
+    const ElfW(Phdr) *p = info->dlpi_phdr, *end = p + info->dlpi_phnum;
+    while (p < end && p->p_type != PT_DYNAMIC) p++;
+    ElfW(Dyn) *d = p < end ? (void *)(info->dlpi_addr + p->p_vaddr) : 0;
+    for (; d && d->d_tag != DT_NULL; d++) {
+        if (d->d_tag == DT_STRTAB) its.at = (char *)d->d_un.d_ptr;
+        if (d->d_tag == DT_STRSZ) its.size = d->d_un.d_val;
+    }
+    if (its.at && (uint64_t)its.at < info->dlpi_addr) its.at += info->dlpi_addr;
+    return its;
 }
 
-/* Compiled with -fsanitize=thread is what imports hooks. (Calls of __tsan_init say less: some are jumps.) */
-static enum language language_of(struct dl_phdr_info *info, const ElfW(Phdr) *dynamic) {
-    static const char name[] = "\0__tsan_init";
-    uint64_t strings = 0, size = 0;
-    for (ElfW(Dyn) *d = (void *)(info->dlpi_addr + dynamic->p_vaddr); d->d_tag != DT_NULL; d++) {
-        if (d->d_tag == DT_STRTAB) strings = d->d_un.d_ptr;
-        if (d->d_tag == DT_STRSZ) size = d->d_un.d_val;
-    }
-    if (strings < info->dlpi_addr) strings += info->dlpi_addr;
-    return strings && memmem((void *)strings, size, name, sizeof name) ? told_by((void *)strings, size)
-        : WITHOUT_HOOKS;
+static int have(names its, const char *name) {
+    return its.at && memmem(its.at, its.size, name, 1 + strlen(name + 1));
+}
+
+/* Compiled with -fsanitize=thread is what imports hooks. (Calls of __tsan_init say less: some are jumps.)
+   In C is what takes nothing of C++, unwinds no stack, and uses no liburcu, whose headers nest functions. */
+enum language { WITHOUT_HOOKS, IN_OTHERS, IN_C };
+static enum language language_of(names its) {
+    static const char *const others[] = {"\0_Z", "\0__gxx_", "\0_Unwind_", "\0urcu_"};
+    if (!have(its, "\0__tsan_init")) return WITHOUT_HOOKS;
+    for (unsigned k = 0; k < sizeof others / sizeof *others; k++)
+        if (have(its, others[k])) return IN_OTHERS;
+    return IN_C;
 }
 
 static struct module bounds_of(const struct dl_phdr_info *info) {
@@ -71,16 +79,15 @@ static int see_module(struct dl_phdr_info *info, size_t size, void *how_many) {
     *(unsigned long long *)how_many = info->dlpi_adds;
     struct module m = bounds_of(info);
     uint64_t own = (uint64_t)see_module;
-    enum language language = WITHOUT_HOOKS;
-    for (int i = 0; i < info->dlpi_phnum; i++)
-        if (info->dlpi_phdr[i].p_type == PT_DYNAMIC) language = language_of(info, &info->dlpi_phdr[i]);
+    names its = names_of(info);
+    enum language language = own < m.low || own >= m.high ? language_of(its) : WITHOUT_HOOKS;
     m.is_in_c = language == IN_C;
     note_module(info, m);
     const char *slash = strrchr(info->dlpi_name, '/');
     for (int i = 0; slash && i < OWN_ORDERS; i++)
         if (!strncmp(slash, own_orders[i], strlen(own_orders[i]))) with_own_order[i] = m;
-    if (language && (own < m.low || own >= m.high) && !instrumented(m.low) && module_count < MAX_MODULES)
-        modules[module_count++] = m;
+    if (language && !instrumented(m.low) && module_count < MAX_MODULES) modules[module_count++] = m;
+    if (language && have(its, "\0malloc_usable_size")) uses_whole_blocks = 1;
     return 0;
 }
 

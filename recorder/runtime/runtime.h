@@ -316,6 +316,7 @@ int load_acquire(const int *p, uint64_t caller); /* an atomic load by the caller
 
 /* memory.c */
 void *allocated(void *p, size_t size, uint64_t caller);      /* notes new variables; returns p */
+extern int uses_whole_blocks;          /* may code with hooks ask how large a block is, and use all of it? */
 
 /* signals.c */
 void watch_crashes(void);
