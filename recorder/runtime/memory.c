@@ -12,11 +12,16 @@ void *allocated(void *p, size_t n, uint64_t caller) {
     return p;
 }
 
-/* The blocks are the C library's, whatever allocator the program or another library has. */
+/* The blocks are the C library's, or of an allocator that has its names (tcmalloc, mimalloc). */
+PUBLIC size_t malloc_usable_size(void *);
 static size_t (*usable_size)(void *);
 __attribute__((constructor(101))) static void know_usable_size(void) {
-    void *c_library = dlopen("libc.so.6", RTLD_LAZY | RTLD_NOLOAD);
-    if (c_library) usable_size = (size_t (*)(void *))dlsym(c_library, "malloc_usable_size");
+    Dl_info from;
+    int is_known = dladdr((void *)__libc_malloc, &from);
+    void *library = is_known ? dlopen(from.dli_fname, RTLD_LAZY | RTLD_NOLOAD) : 0;
+    if (!library) library = dlopen(0, RTLD_LAZY);
+    void *found = library ? dlsym(library, "malloc_usable_size") : 0;
+    if (found != (void *)malloc_usable_size) usable_size = (size_t (*)(void *))found;
 }
 
 PUBLIC size_t malloc_usable_size(void *p) {

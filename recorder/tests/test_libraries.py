@@ -11,6 +11,44 @@ import recorder
 
 LIBRARIES = recorder.HERE / "libraries"
 RUNS = 3
+# An allocator with the C library's own names, as some have; a block has its size before it.
+ALLOCATOR = """#include <stddef.h>
+#include <string.h>
+static char room[1 << 26];
+static size_t used;
+void *__libc_memalign(size_t a, size_t n) {
+    size_t end = __atomic_add_fetch(&used, n + 2 * (a < 16 ? a = 16 : a), __ATOMIC_RELAXED) & -a;
+    char *p = room + (end - n & -a);
+    ((size_t *)p)[-1] = n << 40;       /* the C library's own would take it for an address far away */
+    return p;
+}
+void *__libc_malloc(size_t n) { return __libc_memalign(16, n); }
+void *__libc_calloc(size_t k, size_t n) { return __libc_memalign(16, k * n); }
+void __libc_free(void *p) { if (p) ((size_t *)p)[-1] = 0; }
+size_t malloc_usable_size(void *p) { return ((size_t *)p)[-1] >> 40; }
+void *__libc_realloc(void *p, size_t n) {
+    void *new = __libc_malloc(n);
+    if (p) memcpy(new, p, n < malloc_usable_size(p) ? n : malloc_usable_size(p));
+    return new;
+}
+void *malloc(size_t n) { return __libc_malloc(n); }
+void *calloc(size_t k, size_t n) { return __libc_calloc(k, n); }
+void *realloc(void *p, size_t n) { return __libc_realloc(p, n); }
+void free(void *p) { __libc_free(p); }
+"""
+ALLOCATES = """#include <pthread.h>
+#include <stdlib.h>
+static void *work(void *p) { return free(p), malloc(100); }
+int main(void) {
+    pthread_t t;
+    void *p = malloc(5000);
+    free(malloc(3000));
+    pthread_create(&t, 0, work, p);
+    pthread_join(t, &p);
+    free(p);
+    return 0;
+}
+"""
 
 
 def flags(package):
@@ -104,6 +142,20 @@ class Libraries(recorder.Case):
         said = ran.stderr.decode()
         self.assertEqual((ran.returncode, "isn't seen: liblocked.so. Its POSIX and C++ locks are;" in said,
                           "libgomp" in said), (0, True, False), said)
+
+    def right(self, library, program, runs):
+        """A right program of a library without the flag is found to be right."""
+        (self.folder / "library.c").write_text(library)
+        (self.folder / "program.c").write_text(program)
+        for words in (["-shared", "-fPIC", "-fno-builtin", "library.c", "-o", "liblibrary.so"],
+                      ["-fsanitize=thread", "program.c", "./liblibrary.so", "-o", "program"]):
+            recorder.must(recorder.call("gcc", "-w", "-g", "-O1", *words, cwd=self.folder))
+        ran = recorder.call(recorder.COMMAND, "--runs", runs, "./program", cwd=self.folder,
+                            env={**os.environ, "SHB": str(recorder.SHB)})
+        self.assertEqual(ran.returncode, 0, ran.stderr.decode())
+
+    def test_an_allocator_with_the_c_librarys_names(self):
+        self.right(ALLOCATOR, ALLOCATES, 2)
 
     def test_perhaps_ordered(self):
         """A library without hooks hands a block on, and both sides call it: the race is marked. One of a
