@@ -125,7 +125,8 @@ static inline uint64_t steps_in_turns(const thread *t) {
 /* turn.c: who runs.  Each hook is enter .. leave; enter returns no thread if nothing is to be recorded. */
 enum yields { NEVER_YIELD, YIELDS_BY_LIST, MAY_YIELD };      /* by the list alone: in a replay */
 extern __thread thread *self __attribute__((tls_model("initial-exec")));
-extern volatile int recording;
+extern volatile int recording;         /* in a process made by fork it is 0 at once; `was_recording` isn't */
+extern int was_recording;
 void begin_turns(int slice, uint64_t seed);                  /* with 0 slices of many lengths */
 void restart_turns(thread *t);         /* in a process made by fork, where t is alone; it has the turn */
 void for_all_threads(void (*step)(thread *t));               /* that are there; with the turn */

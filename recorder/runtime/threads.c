@@ -78,8 +78,8 @@ static void thread_exits(void *t_) {   /* runs again in each round of destructor
 static int is_unrecorded_child;
 
 void begin_child(void) {
-    int was = recording;
-    recording = 0;
+    int was = was_recording;
+    recording = was_recording = 0;
     others = 0;
     is_unrecorded_child = was;
     unlock_keys();

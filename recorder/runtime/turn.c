@@ -62,7 +62,12 @@
 #define SLICES_HELD 4                  /* on average */
 
 __thread thread *self __attribute__((tls_model("initial-exec")));
-volatile int recording;
+/* In a page of its own: a process made by fork begins with an empty one, so handlers of fork that come before
+   ours write nothing into the parent's record. */
+enum { PAGE = 4096 };
+static struct { int recording; char rest[PAGE - sizeof(int)]; } wiped __attribute__((aligned(PAGE), used));
+extern volatile int recording __attribute__((alias("wiped")));
+int was_recording;
 
 static _Atomic uint64_t turn;
 static _Atomic int guard;
@@ -499,7 +504,8 @@ void begin_turns(int slice_, uint64_t seed) {
     for (int i = 0; i < 8; i++) draw();
     begin_slices();
     has_barrier = ask_for_barrier(MEMBARRIER_CMD_REGISTER_PRIVATE_EXPEDITED);
-    recording = 1;
+    madvise(&wiped, sizeof wiped, MADV_WIPEONFORK);
+    recording = was_recording = 1;
 }
 
 void restart_turns(thread *t) {
@@ -513,7 +519,7 @@ void restart_turns(thread *t) {
     atomic_store(&turn, next_word(t, atomic_load(&turn)));
     atomic_store(&guard, 0);
     has_barrier = ask_for_barrier(MEMBARRIER_CMD_REGISTER_PRIVATE_EXPEDITED);
-    recording = 1;
+    recording = was_recording = 1;
     holder = t;
     name_quick_holder();
 }
@@ -521,7 +527,7 @@ void restart_turns(thread *t) {
 int end_turns(void) {
     lock_guard();
     int was = recording;
-    recording = 0;
+    recording = was_recording = 0;
     name_quick_holder();
     if (holder) end_quick(holder);
     for (int i = 0; i < waiters; i++) wake(waiting[i]);

@@ -49,6 +49,43 @@ int main(void) {
     return 0;
 }
 """
+# Its handlers of fork come before the recorder's.
+FORK_HANDLERS = """#include <pthread.h>
+static pthread_mutex_t locks[4];
+static void take(void) { for (int k = 0; k < 4; k++) pthread_mutex_lock(locks + k); }
+static void give(void) { for (int k = 0; k < 4; k++) pthread_mutex_unlock(locks + k); }
+__attribute__((constructor)) static void begin(void) { pthread_atfork(take, give, give); }
+void use(void) { take(), give(); }
+"""
+FORKS = """#include <pthread.h>
+#include <sys/wait.h>
+#include <unistd.h>
+void use(void);
+static pthread_mutex_t door = PTHREAD_MUTEX_INITIALIZER;
+static int slots[64];
+static void *count(void *seed_) {
+    unsigned seed = (long)seed_;
+    for (int k = 0; k < 3000; k++) {
+        seed = seed * 1103515245 + 12345;
+        pthread_mutex_lock(&door);
+        slots[seed >> 20 & 63]++;
+        pthread_mutex_unlock(&door);
+    }
+    return 0;
+}
+int main(void) {
+    pthread_t t[4];
+    use();
+    for (long k = 0; k < 4; k++) pthread_create(t + k, 0, count, (void *)(k + 1));
+    for (int k = 0; k < 5; k++) {
+        int child = fork();
+        if (!child) _exit(0);
+        waitpid(child, 0, 0);
+    }
+    for (int k = 0; k < 4; k++) pthread_join(t[k], 0);
+    return 0;
+}
+"""
 
 
 def flags(package):
@@ -156,6 +193,10 @@ class Libraries(recorder.Case):
 
     def test_an_allocator_with_the_c_librarys_names(self):
         self.right(ALLOCATOR, ALLOCATES, 2)
+
+    def test_handlers_of_fork_that_come_before_the_recorders(self):
+        """A process made by fork writes nothing into its parent's record."""
+        self.right(FORK_HANDLERS, FORKS, 8)
 
     def test_perhaps_ordered(self):
         """A library without hooks hands a block on, and both sides call it: the race is marked. One of a
