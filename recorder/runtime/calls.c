@@ -29,10 +29,13 @@ static _Atomic uint32_t kept_count = 1, buckets[BUCKETS];
 
 context *context_at(const thread *t, uint32_t depth) { return depth ? t->frames[depth - 1].in : kept; }
 
+static uint64_t kind_under_locks(const thread *t, context *c);
+
 void set_depth(thread *t, uint32_t depth) {
     t->depth = depth;
-    t->in = context_at(t, recordable_depth(t));
-    t->kind = t->in->kind;
+    context *c = context_at(t, recordable_depth(t));
+    t->in = c;
+    t->kind = t->locks && c->kind != NO_KIND ? kind_under_locks(t, c) : c->kind;
 }
 
 int is_kept_context(const context *c) { return c >= kept && c < kept + MOST_KEPT; }
@@ -106,11 +109,21 @@ static uint64_t kind_of(const context *c) {
     return kind ? (uint64_t)(kind - kept) << KIND_AT : NO_KIND;
 }
 
+/* So no use with locks stands for one without, and seldom for one with others: they are as a call further in.
+   Where there is no room the kind is that without locks. */
+static uint64_t kind_under_locks(const thread *t, context *c) {
+    const uint32_t set = (t->sum_of_locks * 0x9E3779B97F4A7C15u >> 32) % LOCK_SETS;
+    const context call = {.caller = set + 1};
+    const context *kind = c->under[set] ? 0 : kind_with(&kept[c->kind >> KIND_AT], &call);
+    if (kind) c->under[set] = kind - kept;
+    return c->under[set] ? (uint64_t)c->under[set] << KIND_AT : c->kind;
+}
+
 /* The function in the frame is called as `new` says, in those of `outer`. Where there is no room for a
    context the frame has its own, a new one at each call. */
 void enter_context(frame *f, context *outer, context new) {
     f->own = (context){outer, new.caller, new.function, new.way, new.extent, NO_KIND, NOT_RECORDED,
-                       outer->depth + 1, 0, 0, 0};
+                       outer->depth + 1, 0, 0, 0, {0}};
     uint32_t k = is_kept_context(outer) ? find_context(&f->own) : 0;
     if (!k) f->own.kind = kind_of(&f->own);
     if (!k && is_kept_context(outer)) k = add_context(&f->own);

@@ -287,6 +287,17 @@ static int is_held_back(thread *t, enum operation operation, struct record r, ui
     return held;
 }
 
+/* Of locks that it took unrecorded, or released so, the count is wrong, and so are its kinds for a while. */
+static void count_locks(thread *t, const struct record *r, enum operation operation) {
+    int takes = operation == OP_LOCK || operation == OP_READ_LOCK || operation == OP_WRITE_LOCK;
+    if (!takes && operation != OP_UNLOCK && operation != OP_RW_UNLOCK) return;
+    uint64_t lock = r->where & LOW_48_BITS;
+    t->sum_of_locks += takes ? lock : -lock;
+    if (takes) t->locks++;
+    else if (t->locks && --t->locks == 0) t->sum_of_locks = 0;
+    set_depth(t, t->depth);            /* so its kind is that under these locks */
+}
+
 static void put_now(thread *t, enum operation operation, pointer address, uint64_t size, uint64_t caller) {
     add_contexts(t);
     uint64_t inside = inside_of(t, operation, size);
@@ -301,6 +312,7 @@ static void put_now(thread *t, enum operation operation, pointer address, uint64
     records[written++] = r;
     if (inside == SIZE_FOLLOWS) records[written++] = (struct record){size, (uint64_t)OP_SIZE << 48};
     if (segment_records) note_held(r);
+    count_locks(t, &r, operation);
 }
 
 /* A long range takes as long as a slice, so that ends with it; the stack of a thread that starts does not. */

@@ -28,6 +28,8 @@ void __libc_free(void *);
 /* for the compiler; the processor stores in this order, and loads too */
 #define KEEP_ORDER() __asm__ volatile("" ::: "memory")
 
+enum { LOCK_SETS = 3 };                /* sets of locks fall into so many, besides that of none */
+
 /* The functions that a thread is in are a node of a tree (calls.c): the innermost, and the others' node. */
 typedef struct context {
     struct context *outer;
@@ -36,6 +38,7 @@ typedef struct context {
     uint64_t kind;                     /* as cells.h has it in a use */
     uint32_t number, depth;            /* in the record; how many functions it has */
     uint32_t inner, after, next;       /* entered from here last; from the same one after; in its bucket */
+    uint32_t under[LOCK_SETS];         /* its kinds there, once they are known */
 } context;
 #define NOT_RECORDED (~0u)             /* in the place of a number */
 
@@ -63,7 +66,7 @@ typedef struct thread {
     uint64_t base;
     uint64_t last;                     /* its last hook: a read as read_at, a write as write_at, or 0 */
     const context *in;                 /* the functions that it is in, the outermost MOST_FRAMES */
-    uint64_t kind;                     /* of that */
+    uint64_t kind;                     /* of that, under its locks */
     uint64_t reader;                   /* as cells.h has it in a use */
     uint32_t number;                   /* in the order of creation, from 0; or that of one that is over */
     uint32_t depth;                    /* how many functions it is in */
@@ -76,6 +79,8 @@ typedef struct thread {
     char may_be_held;                  /* there */
     int quantum;                       /* hooks until it gives the turn to a waiter */
     int spins;                         /* how often in a row its last hook left the value as it was */
+    uint32_t locks;                    /* that it took and has yet to release; a sum of these */
+    uint64_t sum_of_locks;
     /* its last ones in the record */
     struct read { struct record r; uint64_t changes; const context *context; } recent[RECENT_READS];
     unsigned next_recent;
