@@ -126,10 +126,11 @@ def told(path, question):
 
 def is_behind(program, variables):
     """Whether the loader, which has this environment, would put the recorder's library behind the C library:
-    then no thread would be seen. So it is where a library of a program without hooks has them."""
+    then no thread would be seen. So it is where a library of a program without hooks has them. Or behind one
+    that is preloaded, perhaps an allocator: then no block would be seen."""
     kind = told(os.fsencode(os.path.realpath(program)), "kind")
     if b"program" not in kind or is_first(kind[b"library"]):
-        return False
+        return any(map(is_library, kind[b"library"])) and bool(variables.get("LD_PRELOAD"))
     try:
         listed = subprocess.run([LOADER, "--list", program], env=variables, stdout=subprocess.PIPE,
                                 stderr=subprocess.DEVNULL).stdout

@@ -45,8 +45,35 @@ int main(void) {
     free(malloc(3000));
     pthread_create(&t, 0, work, p);
     pthread_join(t, &p);
-    free(p);
+    free((void *)p);
     return 0;
+}
+"""
+# To be preloaded: it gives one block again and again. The program uses that in two threads, without order.
+ONE_BLOCK = """#include <stddef.h>
+void *__libc_malloc(size_t), __libc_free(void *);
+static long block[1000];
+void *malloc(size_t n) { return n == sizeof block ? block : __libc_malloc(n); }
+void free(void *p) { if (p != block) __libc_free(p); }
+"""
+USES_ONE_BLOCK = """#include <pthread.h>
+#include <stdlib.h>
+#include <unistd.h>
+static void use(void) {
+    volatile long *p = malloc(8000);
+    p[1] = 1;
+    free((void *)p);
+}
+static void *work(void *unused) {
+    use();
+    return unused;
+}
+int main(void) {
+    pthread_t t;
+    pthread_create(&t, 0, work, 0);
+    usleep(20000);
+    use();
+    return pthread_join(t, 0);
 }
 """
 # Its handlers of fork come before the recorder's.
@@ -180,7 +207,7 @@ class Libraries(recorder.Case):
         self.assertEqual((ran.returncode, "isn't seen: liblocked.so. Its POSIX and C++ locks are;" in said,
                           "libgomp" in said), (0, True, False), said)
 
-    def right(self, library, program, runs):
+    def right(self, library, program, runs, **more):
         """A right program of a library without the flag is found to be right."""
         (self.folder / "library.c").write_text(library)
         (self.folder / "program.c").write_text(program)
@@ -188,11 +215,14 @@ class Libraries(recorder.Case):
                       ["-fsanitize=thread", "program.c", "./liblibrary.so", "-o", "program"]):
             recorder.must(recorder.call("gcc", "-w", "-g", "-O1", *words, cwd=self.folder))
         ran = recorder.call(recorder.COMMAND, "--runs", runs, "./program", cwd=self.folder,
-                            env={**os.environ, "SHB": str(recorder.SHB)})
+                            env={**os.environ, "SHB": str(recorder.SHB), **more})
         self.assertEqual(ran.returncode, 0, ran.stderr.decode())
 
     def test_an_allocator_with_the_c_librarys_names(self):
         self.right(ALLOCATOR, ALLOCATES, 2)
+
+    def test_an_allocator_that_is_preloaded(self):
+        self.right(ONE_BLOCK, USES_ONE_BLOCK, 2, LD_PRELOAD=str(self.folder / "liblibrary.so"))
 
     def test_handlers_of_fork_that_come_before_the_recorders(self):
         """A process made by fork writes nothing into its parent's record."""
