@@ -2,6 +2,7 @@
 #include "library.h"
 #include <fcntl.h>
 #include <netinet/in.h>
+#include <poll.h>
 #include <sys/epoll.h>
 #include <sys/eventfd.h>
 #include <sys/socket.h>
@@ -215,6 +216,16 @@ RECEIVES(__recvfrom_chk, GETS_BYTES(least(r, n)))
 RECEIVES(epoll_wait, GETS_EVENTS)
 RECEIVES(epoll_pwait, GETS_EVENTS)
 RECEIVES(epoll_pwait2, GETS_EVENTS)
+/* What is ready to be read, or has ended, was made so before. */
+#define POLLS(name) \
+    WRAPS(int, name, (struct pollfd *all, nfds_t count, word third, word fourth, word fifth)) { \
+        let_others_run(); \
+        int r = REAL_AS(name)(all, count, third, fourth, fifth); \
+        for (nfds_t k = 0; r > 0 && k < count; k++) \
+            if (all[k].revents & ~POLLOUT) note_descriptor(OP_WAIT, data_of(all[k].fd), CALLER); \
+        return r; \
+    }
+POLLS(poll) POLLS(ppoll) POLLS(__poll_chk) POLLS(__ppoll_chk)
 /* At a place of a file, which is no order: a pipe has none. */
 BEFORE(ssize_t, pwrite, (int f, const void *p, size_t n, off_t at), (f, p, n, at), SENDS_BYTES)
 BEFORE(ssize_t, pwritev, (int f, const struct iovec *p, int n, off_t at), (f, p, n, at), SENDS_PIECES)

@@ -184,6 +184,8 @@ BEFORE(size_t, fwrite, (const void *p, size_t size, size_t n, FILE *f), (p, size
        READS(p, array(size, n)); note_stream(OP_POST, f, seen))
 BEFORE(int, fputc, (int c, FILE *f), (c, f), note_stream(OP_POST, f, seen))
 BEFORE(int, putc, (int c, FILE *f), (c, f), note_stream(OP_POST, f, seen))
+BEFORE(int, putc_unlocked, (int c, FILE *f), (c, f), note_stream(OP_POST, f, seen))
+BEFORE(int, fputc_unlocked, (int c, FILE *f), (c, f), note_stream(OP_POST, f, seen))
 BEFORE(int, fflush, (FILE *f), (f), note_stream(OP_POST, f, seen))
 BEFORE(int, fclose, (FILE *f), (f), note_stream(OP_POST, f, seen))
 AFTER(size_t, fread, (void *p, size_t size, size_t n, FILE *f), (p, size, n, f),
@@ -197,6 +199,9 @@ AFTER(char *, __fgets_chk, (char *s, size_t room, int n, FILE *f), (s, room, n, 
       note_stream(OP_WAIT, f, seen); if (r) WRITES(s, text(s)))
 AFTER(int, fgetc, (FILE *f), (f), note_stream(OP_WAIT, f, seen))
 AFTER(int, getc, (FILE *f), (f), note_stream(OP_WAIT, f, seen))
+AFTER(int, getc_unlocked, (FILE *f), (f), note_stream(OP_WAIT, f, seen))
+AFTER(int, fgetc_unlocked, (FILE *f), (f), note_stream(OP_WAIT, f, seen))
+AFTER(int, __uflow, (FILE *f), (f), note_stream(OP_WAIT, f, seen))        /* of that, where it is inlined */
 static void got_line(uint64_t seen, FILE *f, char **line, size_t *room, ssize_t length) {
     note_stream(OP_WAIT, f, seen);
     if (length < 0) return;

@@ -18,10 +18,8 @@ void let_others_run(void) {
         return REAL_AS(name)(a, b, c, d, e, f); \
     }
 BLOCKS(sched_yield) BLOCKS(thrd_yield) BLOCKS(thrd_sleep) BLOCKS(nanosleep) BLOCKS(clock_nanosleep)
-BLOCKS(usleep) BLOCKS(sleep) BLOCKS(pause) BLOCKS(poll) BLOCKS(ppoll) BLOCKS(select) BLOCKS(pselect)
+BLOCKS(usleep) BLOCKS(sleep) BLOCKS(pause) BLOCKS(select) BLOCKS(pselect)
 BLOCKS(flock)
-/* As the compiler calls them with -D_FORTIFY_SOURCE. */
-BLOCKS(__poll_chk) BLOCKS(__ppoll_chk)
 /* for processes and for signals */
 BLOCKS(wait) BLOCKS(wait3) BLOCKS(wait4) BLOCKS(waitid) BLOCKS(waitpid)
 BLOCKS(sigsuspend) BLOCKS(sigwait) BLOCKS(sigwaitinfo) BLOCKS(sigtimedwait)
