@@ -392,7 +392,7 @@ void note_use(const entry *e, u64 object, int gives) {
     if (!notes_uses()) return;
     const block *b = block_at(e->address);
     note_name(e->address, block_number(b), written + 1, t);
-    part name = variable_name(e->address, b), place = place_of(e->caller);
+    part name = variable_name(e->address, b), place = place_of(own_place(t, e->caller));
     fprintf(lines, "use %lu\t%.*s\t%s\t%.*s\t%s %s%s\n", written + 1, (int)name.length, name.at,
             thread_name(t), (int)place.length, place.at,
             is_load ? "load" : is_store ? "store" : "update", orders[acquires(e) + 2 * (!is_load && gives)],
@@ -401,7 +401,7 @@ void note_use(const entry *e, u64 object, int gives) {
 
 void note_fence(const entry *e) {
     if (!with_stacks || !notes_uses()) return;
-    part place = place_of(e->caller);
+    part place = place_of(own_place(e->thread, e->caller));
     fprintf(lines, "use %lu\t\t%s\t%.*s\tfence acquire\n", written + 1, thread_name(e->thread),
             (int)place.length, place.at);
 }
