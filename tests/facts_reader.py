@@ -256,14 +256,14 @@ class Group:
                 yield f"{earlier} comes first, and holds"
 
     # ---- trials: the trace with a remedy in it ----
-    def races_left(self, keys=(), moved=(), before=0):
+    def races_left(self, keys=(), moved=()):
         """Whether a variable of the group races, with an order at some atomics, and some events moved."""
         clocks, reader, orders, found = Clocks(), self.reader, self.orders(set(keys)), False
         for number in range(1, len(reader.lines) + 2):
             for thread, does, what in orders.get(number, ()):
                 clocks.give(thread, what) if does == "give" else clocks.take(thread, clocks.given.get(what))
-            own = [number] if number not in moved and number <= len(reader.lines) else []
-            here = [*moved, *own] if number == before else own
+            own = [number] if number not in dict(moved) and number <= len(reader.lines) else []
+            here = [*(event for event, before in moved if before == number), *own]
             for line in filter(self.is_kept, [reader.lines[event - 1] for event in here]):
                 found = clocks.event(line, bisect.bisect(reader.parts, number)) or found
         return found
@@ -289,7 +289,7 @@ class Group:
         keys = {(by["atomic"], by["store"]["location"], by["load"]["location"]) for by in fact.get("by", ())}
         if fact.get("is_tried") and (self.races_left(keys) or self.comes_again(keys)):
             yield "the remedy leaves a race"
-        if "moved" in fact and self.races_left((), fact["moved"], fact["before"]):
+        if "moved" in fact and self.races_left((), fact["moved"]):
             yield "the move leaves a race"
         if fact.get("is_refuted") and not self.has_refuted():
             yield "no remedy is refuted"

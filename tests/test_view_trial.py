@@ -20,6 +20,8 @@ AGAIN = [*HANDED, "B|acq(m)|f.c:7", "B|rel(m)|f.c:7", "A|acq(m)|f.c:4", "A|rel(m
 TRIED = ". Tried on this run: no race of it is left in the page's trace."
 REMEDY = f"write flag with release at f.c:3 and read flag with acquire at f.c:5{TRIED}"
 LATE = ["main|fork(A)|f.c:1", "main|w(x)|f.c:2", "A|r(x)|f.c:6"]
+GIVEN = ["main|fork(A)|f.c:1", "A|acq(m)|f.c:2", "A|rel(m)|f.c:3", "A|w(x)|f.c:4", "B|acq(m)|f.c:6",
+         "B|rel(m)|f.c:6", "B|r(x)|f.c:7"]
 EARLY = ["main|fork(A)|f.c:1", "A|w(x)|f.c:6", "A|w(x)|f.c:6", "main|r(x)|f.c:2", "main|join(A)|f.c:3"]
 
 
@@ -91,15 +93,33 @@ class Trials(program.Case):
 
     def test_a_write_that_comes_after_its_readers_creation(self):
         group, remedy = self.group(LATE)
-        self.assertEqual((group["moved"], group["before"]), ([2], 1))
+        self.assertEqual(group["moved"], [(2, 1)])
         self.assertEqual(remedy, f"move f.c:2 before the thread's creation at f.c:1{TRIED}")
-        self.assertEqual(self.faults(group, before=3), ["no-lock of ['x']: the move leaves a race"])
+        self.assertEqual(self.faults(group, moved=[(2, 3)]), ["no-lock of ['x']: the move leaves a race"])
 
     def test_a_read_that_comes_before_a_join(self):
         group, remedy = self.group(EARLY)
-        self.assertEqual((group["moved"], group["before"]), ([4], 6))
+        self.assertEqual(group["moved"], [(4, 6)])
         self.assertEqual(remedy, f"move f.c:2 after the join at f.c:3{TRIED}")
-        self.assertEqual(self.faults(group, before=5), ["no-lock of ['x']: the move leaves a race"])
+        self.assertEqual(self.faults(group, moved=[(4, 5)]), ["no-lock of ['x']: the move leaves a race"])
+
+    def test_a_use_after_a_release(self):
+        """Each behind its own, of a lock or of an atomic for each other thread."""
+        remedy = f"move f.c:4 before the release of m at f.c:3{TRIED}"
+        for lines, beside, moved, more in (
+                (GIVEN, (), [(4, 3)], []), (GIVEN, (), [(4, 3)], ["repeated\t4"]),
+                ([line.replace("(m)", "(m@1>B)") for line in GIVEN], FLAG, [(4, 2)], []),
+                ([*GIVEN[:3], "A|acq(m@1>C)|f.c:3", "A|rel(m@1>C)|f.c:3", *GIVEN[3:]], (), [(6, 3)], [])):
+            group, found = self.group(lines, beside, more)
+            self.assertEqual((group["moved"], found), (moved, remedy))
+        self.assertEqual(self.faults(group, moved=[(6, 6)]), ["no-lock of ['x']: the move leaves a race"])
+
+    def test_a_use_that_a_release_before_tells_nothing_of(self):
+        """Two behind one; one that stands for several; the lock that a thread takes of another; a barrier."""
+        for lines, beside, more in (([*GIVEN[:4], *GIVEN[3:]], (), []), (GIVEN, (), ["repeated\t4\tonce"]),
+                                    ([line.replace("(m)", "(m@1>A)") for line in GIVEN], (), []),
+                                    ([line.replace("(m)", "(m@1)") for line in GIVEN], (), [])):
+            self.assertNotIn("moved", self.group(lines, beside, more)[0])
 
     def test_a_lock_that_one_thread_alone_uses(self):
         lock = "stack.A-0x10"

@@ -33,12 +33,13 @@ class BadUses(Exception):
 class Uses:
     """`events` has for an event of the run that of the page's trace, and `in_run` the other way; `count` is
     how many that trace has. `parts` are those of its events before which some of the run may be missing;
-    `repeated` are those that stand for repeats before them; `sights` are a variable, and where it was written
+    `repeated` are those that stand for repeats before them, `once` those of these behind the first release of
+    their thread at its place; `sights` are a variable, and where it was written
     and then read by another thread, in the run."""
 
     def __init__(self, path):
         self.uses, self.events, self.in_run, self.parts, self.count = [], {}, {}, [], None
-        self.repeated, self.sights = set(), set()
+        self.repeated, self.once, self.sights = set(), set(), set()
         with open_regular(path) as file:
             if file.readline(len(BEGIN)) != BEGIN:
                 raise BadUses(OTHER)
@@ -65,7 +66,8 @@ class Uses:
             in_page, in_run = map(whole, fields[1:])
             self.events[in_run], self.in_run[in_page] = in_page, in_run
         elif kind == b"repeated":
-            self.repeated.update(map(whole, fields[1:]))
+            self.repeated.add(whole(fields[1]))
+            self.once.update(map(whole, fields[1:2] * (fields[2:] == [b"once"])))
         elif kind == b"seen":
             self.sights.add(tuple(fields[1:]))
         elif kind == b"part":

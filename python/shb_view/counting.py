@@ -4,6 +4,7 @@ which locks; and for the accesses that may be shown, the events right before the
 import array
 import bisect
 import collections
+import re
 
 from shb_common.uses import OF_STACKS
 from shb_common.variables import without_end
@@ -14,6 +15,8 @@ from shb_view.held import Held, Operations, called
 from shb_view.trace import CHANGED, OPENS
 
 BEFORE = 6  # events of a thread right before its access
+# A lock of the trace's own: what it stands for, and the one thread that it is given to (>) or by, if any.
+GIVEN = rb"(?s)(.+)@[0-9]+(?:([<>])(.+))?"
 MOST_KINDS = 200_000  # accesses that are told apart: by group, line, thread, word and locks held
 
 # What is known of an access: the events of its thread right before it, and the newest locks held, each with
@@ -25,6 +28,9 @@ Access = collections.namedtuple("Access", "number variable kind free")
 
 # The event of a thread in which it creates or joins another one.
 Step = collections.namedtuple("Step", "thread event line")
+
+# What a thread gave at once: the first and last event of its releases, of what, and where.
+Release = collections.namedtuple("Release", "begin end thread lock location")
 
 # An event that stands for repeats between the last one alike (`since`, or 0) and itself.
 Repeated = collections.namedtuple("Repeated", "thread word since event")
@@ -105,8 +111,12 @@ class Counting:
         self.lockers = collections.defaultdict(set)  # by lock: the threads that use it
         self.begins, self.ends = {}, {}  # by thread: where it is created and joined, as `Step`
         # `alike`: by kind of access its last event
-        self.repeated, self.alike = uses.repeated if uses else (), {}
+        self.repeated, self.alike = uses.repeated if uses else set(), {}
+        self.once = uses.once if uses else set()  # of these: what follows one release alone
         self.again = collections.defaultdict(list)  # by variable: its events that stand for repeats
+        self.releases = {}  # by thread: its last one in this part
+        self.handing = {use.name for use in kinds.stacks.uses}  # atomics
+        self.follows = {}  # by word, variable and location: by a release the access after it; None if two are
 
     def read(self, trace, events):
         """Takes all events of the trace; there have to be so many."""
@@ -133,6 +143,8 @@ class Counting:
                     if is_near:
                         held[thread].take(*lock, number)
                     self.lockers[lock[1]].add(thread)
+                if operation.startswith(b"rel("):
+                    self.release(number, thread, operation[4:-1], without_end(line))
                 elif operation.startswith(b"fork("):
                     self.begins[operation[5:-1]] = Step(thread, number, line)
                 elif operation.startswith(b"join(") and operation[5:-1] in last:
@@ -148,8 +160,20 @@ class Counting:
         """What came right before isn't known."""
         for thread, event in self.last.items():
             self.ended[thread].append(event)
-        for of_part in (self.held, self.recent, self.last, self.before, self.writes):
+        for of_part in (self.held, self.recent, self.last, self.before, self.writes, self.releases):
             of_part.clear()
+
+    def release(self, number, thread, lock, line):
+        """Takes a release, if its thread gives by it: not where it takes, or leaves a barrier. One of an
+        atomic, or of a lock with readers, has a lock for each other thread."""
+        own = re.fullmatch(GIVEN, lock) if b"@" in lock else None
+        base, sign, to = own.groups() if own else (lock.partition(b"@")[0], None, None)
+        takes = (sign == b">") == (to == thread) if sign else own and base not in self.handing
+        if not takes:
+            last, what = self.releases.get(thread), (thread, base, line[len(thread) + len(lock) + 7:])
+            is_more = last and number - last.end <= 1 + bool(own) and last[2:] == what
+            begin = last.begin if is_more else number - bool(own)
+            self.releases[thread] = Release(begin, number, *what)
 
     def last_before(self, part, thread):
         """The last event of a thread before a part, or 0."""
@@ -171,6 +195,10 @@ class Counting:
             since = self.alike.get((thread, operation, location), 0)
             self.again[variable].append(Repeated(thread, word, since, number))
         self.alike[thread, operation, location] = number
+        release, its = self.releases.get(thread), self.follows.setdefault((word, variable, location), {})
+        if release and its is not None:
+            self.follows[word, variable, location] = None if release in its else its
+            its[release] = number
         if self.uses is not None and number not in self.wanted:
             return
         if not self.access_kinds.is_in_life(number, variable):

@@ -5,35 +5,66 @@ import bisect
 import collections
 import tempfile
 
-from shb_common.report import event_of
+from shb_common.report import Access, event_of
 from shb_common.variables import without_end
 from shb_common.words import Refused
 from shb_view.analyser import Analyser
+from shb_view.facts import verb_of
+from shb_view.held import called
 from shb_view.trace import OPENS, line_of
-from shb_view.words import listed, place
+from shb_view.words import Code, listed, place
 
 MOST_LINES = 400_000  # of all copies
 MOST_NAMED = 3  # lines in a remedy
+MOVED = "no-lock", "apart", "freed"  # the forms of which a move may be the remedy
 TRIED = {"run": " Tried on this run: no race of it is left in the page's trace.",
          "trace": " Tried on this trace: no race of it is left."}
 TOO_LONG = ["The remedy isn't told, since the trace is too long to try it."]
 
 # What a remedy of some variables changes: `before` has by event the lines that come before it then, and
-# `moved` are events that stand elsewhere. `remedy` says it, as parts.
-Change = collections.namedtuple("Change", "names before moved remedy", defaults=((), None))
+# `moved` by each event that stands elsewhere the one that it comes before. `remedy` says it, as parts; `tag`
+# is what is said in place of the fact's, if anything.
+Change = collections.namedtuple("Change", "names before moved remedy tag", defaults=({}, None, None))
 
 
 def trials_of(found, facts, counting):
-    """The changes that are to be tried of some groups, by the keys of what hands on, or by variables."""
+    """The changes that are to be tried of some groups, by the keys of what hands on, or by variables and a
+    number."""
     named, trials = {}, {}
     for names, pairs in [handed for one in found for handed in one.fact.handed]:
         named.setdefault(keys_of(pairs), set()).update(names)
     for keys, names in named.items():
         pairs = [pair for its in facts.pairs.values() for pair in its if pair.key()[:3] in keys]
         trials[keys] = Change(names, ordered(facts.kinds.stacks.uses, pairs))
-    moves = {one.group.names: move_of(one, counting) for one in found
-             if one.fact.form == "no-lock" and one.fact.remedy and not facts.has_far(one.group)}
-    return {**trials, **{names: move for names, move in moves.items() if move}}
+    for one in found:
+        if one.fact.form in MOVED and one.fact.remedy and not facts.has_far(one.group):
+            moves = [move_of(one, counting)] * (one.fact.form == "no-lock") + [*moves_of(one, counting)]
+            trials.update({(one.group.names, number): move for number, move in enumerate(moves) if move})
+    return trials
+
+
+def moves_of(found, counting):
+    """Of each racing line without a lock the move of its accesses before the last release of their threads,
+    if each has its own: by that a thread may hand on what the line still uses."""
+    locks, names = counting.access_kinds.locks, found.group.names
+    for site in found.sites:
+        if not site.partners or site.accesses[b"f"] or site.accesses[b"a"] or site.bare < site.total:
+            continue
+        follows = {(word, name): counting.follows.get((word, name, site.location), {})
+                   for name in names for word in (b"r", b"w")}
+        moved = {number: (release, access) for access, its in follows.items()
+                 for release, number in (its or {}).items()}
+        if None in follows.values() or not are_moved(site, found, counting, moved.keys()):
+            continue
+        before, after = collections.defaultdict(list), {}
+        for _, (release, access) in sorted(moved.items()):
+            before[release.begin].append(line_of(Access(release.thread, *access, site.location)))
+            after[release[3:]] = ["the release of ", Code(called(release.lock, locks)), " at ",
+                                  place(release.location)]
+        what = listed(after.values(), MOST_NAMED)
+        yield Change(set(names), before, {number: release.begin for number, (release, _) in moved.items()},
+                     ["move ", place(site.location), " before ", *what, "."],
+                     [place(site.location), f" {verb_of([site])} after ", *what])
 
 
 def move_of(found, counting):
@@ -62,7 +93,17 @@ def move_of(found, counting):
     moved = [gathered.accesses[event] for event in events]
     at = [[place(location)] for location in dict.fromkeys(access.location for access in moved)]
     remedy = ["move ", *listed(at, MOST_NAMED), where, place(event_of(without_end(step.line)).location), "."]
-    return Change(set(found.group.names), {event: list(map(line_of, moved))}, set(events), remedy)
+    return Change(set(found.group.names), {event: list(map(line_of, moved))}, dict.fromkeys(events, event),
+                  remedy)
+
+
+def are_moved(site, found, counting, moved):
+    """Whether these events have all racing accesses of a group at a line, and none stands for several behind
+    one release: none does at a line with repeats behind releases of their own."""
+    racing = {event for race in counting.access_kinds.gathered.races(found.group.names)
+              for event, access in zip(race.events, race.accesses) if access.location == site.location}
+    is_behind_one = moved & counting.once and not moved & counting.repeated - counting.once
+    return racing <= moved and not is_behind_one
 
 
 def family_of(pairs, begins):
@@ -154,24 +195,28 @@ def marked(mark, line):
 
 def after_trials(found, facts, trials, left, again):
     """The groups with what trials say of remedies; `again` makes them anew, without what was refuted."""
-    good, refuted = {}, set()
+    good, moves, refuted = {}, {}, set()
     for (key, change), its in zip(trials.items(), left):
-        good[key] = change.names - its
-        refuted |= its if isinstance(key, frozenset) else set()
+        if not change.moved:
+            good[key] = change.names - its
+            refuted |= its
+        elif not its:
+            moves.setdefault(key[0], change)
     if refuted:
         facts.refuted = refuted
         facts.known.clear()
         found = again()
-    return [tried(one, facts.whole, trials, good, len(left) < len(trials)) for one in found]
+    return [tried(one, facts.whole, moves, good, len(left) < len(trials)) for one in found]
 
 
-def tried(found, whole, trials, good, is_too_long):
+def tried(found, whole, moves, good, is_too_long):
     """A group with the remedy that was tried, or without one."""
-    fact, names = found.fact, set(found.group.names)
-    move = trials.get(found.group.names)
-    if move and names <= good.get(found.group.names, set()):
-        said = {"moved": sorted(move.moved), "before": min(move.before)}
-        fact = fact._replace(said={**fact.said, **said}, remedy=[*move.remedy, TRIED[whole]])
+    fact = found.fact
+    move = moves.get(found.group.names)
+    if move:
+        tag = fact.tag if fact.form == "freed" or not move.tag else move.tag
+        fact = fact._replace(said={**fact.said, "moved": sorted(move.moved.items())}, tag=tag,
+                             remedy=[*move.remedy, TRIED[whole]])
     elif not all(good.get(keys_of(pairs), set()).issuperset(its) for its, pairs in fact.handed):
         fact = fact._replace(remedy=[], sentences=[*fact.sentences, *[TOO_LONG] * is_too_long])
     elif fact.handed:

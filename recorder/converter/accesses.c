@@ -257,7 +257,7 @@ static u64 piece_event(const entry *e, const use *u, u32 number, const char *ope
     }
     if (is_kept) note_sight(u->thread, u->own, number, writer, *operation == 'w');
     if (!event_number || !is_repeated(e)) return event_number;
-    note_repeated(event_number);
+    note_repeated(u->thread, event_number);
     return 0;
 }
 
@@ -324,7 +324,7 @@ static void use_on_page(const entry *e, use *u, u32 number) {
     if (is_kept && only_reads(u)) kept = ENTRY(reads, site_and_thread(u), number);
     if (kept && made) *kept = (read_events){0};
     if (made) piece_events(e, u, number, kept);
-    else for (; kept && kept->from < kept->end; kept->from++) note_repeated(kept->from);
+    else for (; kept && kept->from < kept->end; kept->from++) note_repeated(u->thread, kept->from);
     if (!is_kept) return;
     count_use(u->thread, e->caller, u->own, number, word_of(e, u));
     if (with_stacks) note_piece(e, u, number, before);

@@ -255,7 +255,7 @@ void count_use(u32 t, u64 caller, u64 own_place, u32 piece, char word);
 enum { NOBODY = -1u };
 /* an event of the piece, or of what stands for a thread's atomic writes */
 void note_sight(u32 t, u64 own_place, u32 piece, u32 writer, int writes);
-void note_repeated(u64 in_page);       /* an event stands for others that were omitted */
+void note_repeated(u32 t, u64 in_page);   /* a thread's event stands for others that were omitted */
 void end_uses(void);                   /* of each trace */
 
 /* accesses.c, objects.c: what the passes do with a record. */

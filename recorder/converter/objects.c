@@ -541,11 +541,21 @@ static void order_events(const entry *e, object *o) {
     }
 }
 
+/* Is it the first at its place by which the thread gives? Until the next all is behind it alone. */
+static void note_release(const entry *e) {
+    static map places;
+    int is_atomic_one = is_atomic(e->operation) && e->operation != OP_ATOMIC_LOAD && gives(e);
+    if (is_for_page() && (is_atomic_one || e->operation == OP_UNLOCK || e->operation == OP_RW_UNLOCK
+                          || e->operation == OP_POST))
+        threads[e->thread].gave_once = map_adds(&places, e->caller, e->thread);
+}
+
 void object_events(const entry *e) {
     object *o = object_of(e);
     int orders = orders_threads(e, o);
     holds_before(e, o, !orders);
     if (!is_atomic(e->operation) || !orders) access_events(e);
+    note_release(e);
     if (orders) order_events(e, o);
     else if (e->operation == OP_RW_UNLOCK && o->holder == e->thread + 1) o->holder = 0;
     holds_after(e, o, !orders);

@@ -21,10 +21,11 @@
            in the run a read at the location READ saw what another thread wrote at the location WRITTEN
        event NUMBER-IN-PAGE NUMBER-IN-RUN
        part NUMBER-IN-PAGE          between this event and the one before it some may be missing
-       repeated NUMBER-IN-PAGE
+       repeated NUMBER-IN-PAGE [once]
            this access stands for others of its kind, which are omitted: earlier ones in a phase of one
            owner; of a read also later ones, before the thread could order another or the variable is
-           written, or behind its last write
+           written, or behind its last write. `once`: the thread released nothing before at the place of
+           its last release
        events COUNT-IN-PAGE         at the end */
 #define _GNU_SOURCE
 #include <errno.h>
@@ -167,8 +168,8 @@ void note_written(u64 number, u64 in_page) {
         fprintf(uses_file, "event\t%lu\t%lu\n", in_page, number);
 }
 
-void note_repeated(u64 in_page) {
-    if (uses_file) fprintf(uses_file, "repeated\t%lu\n", in_page);
+void note_repeated(u32 t, u64 in_page) {
+    if (uses_file) fprintf(uses_file, "repeated\t%lu%s\n", in_page, threads[t].gave_once ? "\tonce" : "");
 }
 
 void note_part(u64 in_page) {

@@ -62,6 +62,7 @@ typedef struct {
     u64 taken_by;                      /* the last wait that took a post of it */
     /* its last record, and the object that it gave something by that; plus one */
     u64 gave_at, gave;
+    int gave_once;                     /* the place of its last release had none of it before */
     /* bundles.c: the number of its region between two operations of order, or 0; as which users it has a last
        use that isn't in the trace */
     u32 region;
