@@ -469,7 +469,7 @@ class Group:
         if frees != {access.location for access in self.racing() if access.is_free}:
             yield "not all frees"
         if self.has_without(are_kept=True):
-            yield "a lock that the uses lack is held at the frees"
+            yield "a lock tells the frees and the uses apart"
         if set(self.fact["uses"]) != {line for pair in self.pairs if pair & frees and len(pair) == 2
                                       for line in pair
                                       if any(other in frees for other in pair - {line})}:
@@ -598,15 +598,17 @@ class Group:
     def has_without(self, are_kept=False):
         """Whether locks of one kind, one for each variable, are held at each access of some lines, and all
         racing lines without them hold none, or hold these at times, or are fewer. With `are_kept` frees are
-        accesses, and hold these."""
+        accesses, and all or none of them hold these."""
         kinds = collections.defaultdict(lambda: collections.defaultdict(set))
-        for access in self.used():
+        for access in self.all if are_kept else self.used():
             for lock in (access.held | access.shared) - self.reader.private:
+                if are_kept and lock.startswith("0x"):
+                    continue
                 kinds[re.sub(r"(#|\[)[0-9]+", r"\1", lock)][access.variable].add(lock)
         frees = [access for access in self.racing() if access.is_free] if are_kept else ()
         choices = (dict(zip(by, locks)) for by in kinds.values() if self.variables <= set(by)
                    for locks in itertools.islice(itertools.product(*by.values()), MOST_CHOICES))
-        return any(all(self.has(free, of.get(free.variable)) for free in frees)
+        return any(len({self.has(free, of.get(free.variable)) for free in frees}) < 2
                    and self.is_without(of, self.all if are_kept else self.used()) for of in choices)
 
     def is_without(self, of, uses):
@@ -617,7 +619,7 @@ class Group:
         lacking = [line for line in self.lines if not all(by_line[line])]
         bare = all(not access.held and not access.shared for access in uses if access.location in lacking)
         words = lambda lines: {access.word for access in uses if access.location in lines}
-        holders = {access.variable for access in uses if access.location in holding and not access.is_free}
+        holders = {access.variable for access in uses if access.location in holding}
         return bool(holding and lacking) and self.variables <= holders and (
             "w" in words(holding) or "r" not in words(lacking) or is_beside(of, self.variables)) and (
             bare or any(any(by_line[line]) for line in lacking) or len(holding) > len(lacking))

@@ -203,7 +203,8 @@ class Locks:
     def __init__(self, used, private):
         """`private` are locks on stacks that one thread alone uses: none of these is told."""
         self.own, self.private = {}, private
-        self.locks = {variable: set().union(*(use.sums[how] for use in its for how in HOW_HELD))
+        of_frees = [*itertools.chain(*used.frees.values())]
+        self.locks = {variable: set().union(*(use.sums[how] for use in (*its, *of_frees) for how in HOW_HELD))
                       for variable, its in used.variables.items()}
         held = [(-count, variable, lock) for variable, its in used.variables.items()
                 for lock, count in held_in(its).items()] if len(self.locks) > 1 else []
@@ -305,20 +306,25 @@ def handed_words(pair):
 
 
 def freed_under_lock(sites, racing, locks, whole):
-    """Racing lines without a lock that all other lines hold, those that free too."""
+    """Racing lines without a lock that all other lines hold: a free is a use of each variable of the block.
+    A lock that each free holds comes first, then one that none does."""
     frees = [site for site in racing if site.accesses[b"f"]]
     if not frees or any(site.unknown for site in sites):
         return None
-    kept = [lock for lock in by_weight(sites, locks)[0] if not any(site.lacks(lock) for site in frees)]
-    found = next(filter(None, (without(sites, racing, lock, locks, whole) for lock in kept)), None)
+    lacking = {lock: sum(site.lacks(lock) for site in frees) for lock in by_weight(sites, locks)[0]
+               if not lock.startswith(b"0x")}  # that of a library says nothing
+    its = [lock for count in (0, len(frees)) for lock in lacking if lacking[lock] == count]
+    found = next(filter(None, (without(sites, racing, lock, locks, whole) for lock in its)), None)
     if not found:
         return None
     lines = [site for site in racing if site.lacks(found.lock)]
     warning = [*lines_of(frees), " frees" if len(frees) == 1 else " free",
                " the block under it: use what was found there in the same section."]
     name, said = lock_name(found.lock), {**found.said, "frees": names_of(frees)}
-    remedy = ["hold ", *name, " at ", *lines_of(lines), ", and as long as the block is used."]
-    return found._replace(said=said, sentences=[*found.sentences, warning], remedy=remedy)
+    is_kept = not lacking[found.lock]
+    until = ", and as long as the block is used." if is_kept else ", and don't use it after the free."
+    return found._replace(said=said, sentences=[*found.sentences, *[warning] * is_kept],
+                          remedy=["hold ", *name, " at ", *lines_of(lines), until])
 
 
 def freed(racing, whole):
@@ -448,6 +454,7 @@ def is_rule(lacking, holding, variables, lock, is_member):
     it, what some readers alone hold is a rule if it is a member of the variable's object (`is_member`), and
     the others hold no lock, or hold this one at times, or are fewer."""
     holders = set().union(*(site.variables for site in holding))
+    holders |= variables if b"" in holders else set()  # a free uses each variable of the block
     if not lacking or not holding or not variables <= holders:
         return False
     if not is_member and not any(site.writes() for site in holding) and any(site.reads() for site in lacking):
@@ -465,9 +472,10 @@ def scope_of(others, lacking, holding):
 
 
 def verb_of(sites):
-    does = ("read" if not any(site.writes() for site in sites)
+    does = ("free" if all(site.accesses[b"f"] == site.total for site in sites)
+            else "read" if not any(site.writes() for site in sites)
             else "write" if not any(site.reads() for site in sites) else "use")
-    return does + "s" * (len(sites) == 1) + " it" * (does == "use")
+    return does + "s" * (len(sites) == 1) + " it" * (does in ("free", "use"))
 
 
 def sometimes(sites, racing, lock, locks, whole):
