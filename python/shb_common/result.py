@@ -36,7 +36,7 @@ def entry(row, found, reads=((), ()), **more):
                   **races.get(text(name), {})} for name, is_known in row.variables]
     return {"state": row.state(), "places": row.places, "accesses": accesses, "variables": variables,
             "has_more_variables": row.has_more,
-            **{name: found[name] for name in ("races", "blamed", "headline", "remedy", "facts")
+            **{name: found[name] for name in ("races", "blamed", "about", "headline", "remedy", "facts")
                if name in found},
             **more}
 

@@ -11,6 +11,8 @@ from shb_common.parts import part_of_page
 from shb_common.programs import pair_of
 from shb_record.places import count, table
 
+NUMBERS = r"#\d+| \(\d+ (?:or more )?(?:variables|blocks)\)|(?<= and )\d+ (?:or more )?(?=others)"
+
 
 def tables_of(look, rows, status):
     """The tables of all that was looked at, by their names. `rows` are those of its places."""
@@ -69,9 +71,11 @@ def log(look, rows, entries, status):
 
 
 def without_numbers(found):
-    """What is said of a place in each run alike: headline and remedy without the numbers of blocks."""
+    """What is said of a place in each run alike: headline and remedy without numbers; of variables that belong
+    together what stands for them."""
     remedy = f"Remedy: {found['remedy']}" if found.get("remedy") else ""
-    return re.sub(r"#\d+", "", ". ".join(filter(None, (found.get("headline", ""), remedy))))
+    about = f"{found['about']}: " if "about" in found else ""
+    return re.sub(NUMBERS, "", ". ".join(filter(None, (about + found.get("headline", ""), remedy))))
 
 
 def access_of(one, sources):
@@ -91,7 +95,7 @@ def index(look, rows):
     for (process, trace), found in look.found.items():
         page = os.path.splitext(os.path.basename(trace))[0] + ".html"
         text.append(f'<h2><a href="{page}">{in_html(process)}</a></h2><ul>')
-        heads = dict.fromkeys(f"{place['variables'][0]['name']}: {place['headline']}"
+        heads = dict.fromkeys(f"{place.get('about') or place['variables'][0]['name']}: {place['headline']}"
                               for place in found["places"] if place["variables"])
         text += [f"<li>{in_html(head)}</li>" for head in heads] + ["</ul>"]
     return "\n".join([*text, "</html>", ""]).encode(errors="backslashreplace")

@@ -362,7 +362,7 @@ def not_atomic(racing, whole):
                 f" {verb} not atomic."]
     said = {"atomic": names_of(atomic), "plain": names_of(plain)}
     return Fact("plain", said, [*lines_of(plain), f" {verb} not atomic"], [sentence],
-                ["make the accesses at ", *lines_of(plain), " atomic too."])
+                ["access it atomically at ", *lines_of(plain), " too."])
 
 
 def uncounted(sites, whole):
@@ -537,12 +537,13 @@ def no_lock(sites, racing, whole):
     """No lock is held at any access."""
     writing = [site for site in racing if site.writes()]
     readers = [site for site in racing if not site.writes()]
-    writers = set().union(*(site.writers for site in racing))
+    writers, every = (set().union(*(site.writers for site in its)) for its in (racing, sites))
     verb = "writes" if len(writing) == 1 else "write"
-    count = f"{len(writers):,} threads" if len(writers) > 1 else "one thread"
+    count = f"{len(every):,} threads" if len(every) > 1 else "one thread"
     also = [", ", *lines_of(readers), " reads" if len(readers) == 1 else " read"] if readers else []
     sentence = [f"In this {whole} no lock is held at any access; {count} ",
-                "writes, at " if len(writers) == 1 else "write, at ", *lines_of(writing), "."]
+                "writes, at " if len(every) == 1 else "write, at ",
+                *lines_of([*writing, *(site for site in sites if site.writes() and not site.partners)]), "."]
     said = {"writes": names_of(writing), "writers": sorted(map(text, writers))}
     is_one = len(set().union(*(site.variables for site in racing))) == 1
     remedy = [FLAG * is_one + "hold one lock at ", *lines_of(racing), "."]

@@ -6,7 +6,7 @@ import collections
 import re
 
 from shb_common.report import Race
-from shb_common.variables import atomic_of
+from shb_common.variables import MOST_VARIABLES, atomic_of
 from shb_view.words import Code
 
 # Names as the recorder writes them: of a variable on a stack; of a member of a block's type, with the block;
@@ -170,16 +170,17 @@ def object_of(group):
 
 def common_name(variables):
     """What stands for some variables, as parts: a name, or the part that they share, and words on how
-    many there are."""
+    many there are. Of a place no more than MOST_VARIABLES are known."""
     if len(variables) == 1:
         return [Code(variables[0])]
+    more = " or more" * (len(variables) >= MOST_VARIABLES)
     parts = [name_parts(variable) for variable in variables]
     bases, blocks, insides = ({part[name] or b"" for part in parts} for name in ("base", "block", "inside"))
     functions = {part["of"] for part in parts}
     if len(bases) > 1 or len(functions) > 1:
-        others = [Code(variables[1])] if len(variables) == 2 else [f"{len(variables) - 1} others"]
+        others = [Code(variables[1])] if len(variables) == 2 else [f"{len(variables) - 1}{more} others"]
         return [Code(variables[0]), " and ", *others]
     if len(insides) == 1:
-        return [Code(bases.pop() + insides.pop()), f" ({len(variables)} blocks)"]
+        return [Code(bases.pop() + insides.pop()), f" ({len(variables)}{more} blocks)"]
     shared = bases.pop() + functions.pop() + (blocks.pop() if len(blocks) == 1 else b"")
-    return [Code(shared), f" ({len(variables)} variables)"]
+    return [Code(shared), f" ({len(variables)}{more} variables)"]

@@ -5,6 +5,7 @@ from shb_common.programs import naming
 from shb_common.variables import without_block
 from shb_view.facts import blamed_of
 from shb_view.group_facts import fact_entry
+from shb_view.groups import common_name
 from shb_view.issue import flat
 from shb_view.words import KINDS, notes_of, told_of
 
@@ -45,6 +46,7 @@ def entry(view, section, pair, origin, names, variables):
             "variables": variables_of(view, pair, variables),
             **({} if view.of_run else {"races": pair.races}),
             **({"blamed": named(blamed, origin, names)} if blamed else {}),
+            **({"about": flat(common_name(its))} if len(its := section.group.variables) > 1 else {}),
             "headline": flat(section.fact.tag), "remedy": flat(section.fact.remedy),
             "facts": [flat(parts) for parts in told_of(section)]}
 

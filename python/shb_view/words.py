@@ -4,6 +4,7 @@ that share a variable."""
 
 import re
 
+from shb_common import variables
 from shb_common.words import counted
 from shb_view.held import read_lock
 from shb_view.names import by_numbers, short
@@ -167,8 +168,10 @@ def seen_parts(section):
 def about(section):
     """All that is said of a group before its lines, each as parts."""
     names = [[Code(name)] for name in section.group.variables]
-    variables = [["Variables: ", *listed(names, MOST_VARIABLES)]] * (len(names) > 1)
-    return [*told_of(section), *seen_parts(section), *variables]
+    if len(names) >= variables.MOST_VARIABLES:  # no more are known of a place
+        names[MOST_VARIABLES - 1:] = [["more"]]
+    its = [["Variables: ", *listed(names, MOST_VARIABLES)]] * (len(names) > 1)
+    return [*told_of(section), *seen_parts(section), *its]
 
 
 def told_of(section):

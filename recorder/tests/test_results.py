@@ -144,6 +144,18 @@ class Results(recorder.Case):
         self.assertIn("<li>hits: app.c:5 writes without a lock</li>", text)
         self.assertIn("prefers-color-scheme: dark", text)   # it has the page's style
 
+    def test_what_is_said_of_a_group_names_it(self):
+        """The headline has lines of other variables of the group."""
+        source = RACE.replace("long hits", "struct { long hits, misses; } all").replace(
+            "    hits++;", "    all.hits++;\n    all.misses++;")
+        self.record("-o", "out", self.build(source))
+        said = "app.c:5 and app.c:6 write without a lock"
+        out = self.folder / "out"
+        self.assertIn(f"<li>all (2 variables): {said}</li>", (out / "index.html").read_text())
+        [log] = json.loads((out / "places.sarif").read_text())["runs"]
+        self.assertEqual([result["message"]["text"].partition(". ")[2] for result in log["results"]],
+                         [f"all: {said}. Remedy: hold one lock at app.c:5 and app.c:6."] * 2)
+
     def test_a_place_of_two_processes_is_in_the_groups_of_both(self):
         self.assertEqual(self.record("-o", "out", self.build(SHARED))[0], 66)
         document = json.loads((self.folder / "out" / "places.json").read_text())
