@@ -103,6 +103,12 @@ class Trials(program.Case):
         self.assertEqual(remedy, f"move f.c:2 after the join at f.c:3{TRIED}")
         self.assertEqual(self.faults(group, moved=[(4, 5)]), ["no-lock of ['x']: the move leaves a race"])
 
+    def test_a_function_that_is_called(self):
+        """What it does isn't moved out of it."""
+        beside = ["frame main\tf.c:1", "frame set\tf.c:2", "stack 1 0 1", "stack 2 1 2"]
+        self.assertNotIn("moved", self.group(LATE, beside, stacks=[1, 2, 2])[0])
+        self.assertIn("moved", self.group(LATE, beside, stacks=[1, 1, 2])[0])
+
     def test_a_use_after_a_release(self):
         """Each behind its own, of a lock or of an atomic for each other thread."""
         remedy = f"move f.c:4 before the release of m at f.c:3{TRIED}"

@@ -71,8 +71,7 @@ def log(look, rows, entries, status):
 
 
 def without_numbers(found):
-    """What is said of a place in each run alike: headline and remedy without numbers; of variables that belong
-    together what stands for them."""
+    """What is said of a place in each run alike: headline and remedy without numbers, and whose they are."""
     remedy = f"Remedy: {found['remedy']}" if found.get("remedy") else ""
     about = f"{found['about']}: " if "about" in found else ""
     return re.sub(NUMBERS, "", ". ".join(filter(None, (about + found.get("headline", ""), remedy))))

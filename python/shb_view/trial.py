@@ -88,13 +88,21 @@ def move_of(found, counting):
     elif words == {b"w"} and not repeating and all(uses_once(found.uses, other, False) for other in others):
         step = min((counting.begins[other] for other in others), key=lambda it: it.event)
         event, where = step.event, " before the thread's creation at "
-    if not step:
+    if not step or not are_in_one(counting.access_kinds.stacks, events, step.event):
         return None
     moved = [gathered.accesses[event] for event in events]
     at = [[place(location)] for location in dict.fromkeys(access.location for access in moved)]
     remedy = ["move ", *listed(at, MOST_NAMED), where, place(event_of(without_end(step.line)).location), "."]
     return Change(set(found.group.names), {event: list(map(line_of, moved))}, dict.fromkeys(events, event),
                   remedy)
+
+
+def are_in_one(stacks, events, step):
+    """Whether some accesses are in the function of a step, as far as that is known: others may be called
+    more often."""
+    functions = {frame.function for frame in stacks.of_event(step)}
+    own = ([it.function for it in stacks.of_event(event) if not it.in_system][:1] for event in events)
+    return all(map(functions.issuperset, own))
 
 
 def are_moved(site, found, counting, moved):
