@@ -103,6 +103,16 @@ class Trials(program.Case):
         self.assertEqual(remedy, f"move f.c:2 after the join at f.c:3{TRIED}")
         self.assertEqual(self.faults(group, moved=[(4, 5)]), ["no-lock of ['x']: the move leaves a race"])
 
+    def test_a_flag_that_is_tested_and_then_set(self):
+        """By two threads: then atomic reads and writes leave the bug; what a library has can't be atomic."""
+        begin, lock = [HANDED[0], HANDED[1]], "hold one lock at f.c:3 and f.c:2."
+        both = [f"{thread}|{does}" for thread in "AB" for does in ("r(x)|f.c:2", "w(x)|f.c:3")]
+        flag = f"make it atomic if it is a flag or a counter; else {lock}"
+        for lines, remedy in ((both, f"test and set it in one step, as by an atomic exchange, or {lock}"),
+                              ([*both[:2], "B|r(x)|f.c:2"], flag),
+                              ([it.replace("(x)", "(x._M_finish)") for it in both], lock)):
+            self.assertEqual(self.group([*begin, *lines])[1], remedy)
+
     def test_a_function_that_is_called(self):
         """What it does isn't moved out of it."""
         beside = ["frame main\tf.c:1", "frame set\tf.c:2", "stack 1 0 1", "stack 2 1 2"]

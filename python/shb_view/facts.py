@@ -17,6 +17,8 @@ from shb_view.words import Code, Own, listed, lock_name, place
 
 MOST_NAMED = 3  # lines in a sentence
 FLAG = "make it atomic if it is a flag or a counter; else "
+STEP = "test and set it in one step, as by an atomic exchange, or "
+OF_LIBRARY = rb"(?:^|[.:])_[_A-Z]|\._vptr|\.so(?:\.[0-9]+)*:"  # what the program can't make atomic
 DIGITS = rb"[0-9]+"
 HOW_HELD = b"under", b"reading"  # how an access holds locks
 NUMBERS = rb"(?<=#)[0-9]+|(?<=\[)[0-9]+(?=\])"  # of a block, and of an element
@@ -545,8 +547,14 @@ def no_lock(sites, racing, whole):
                 "writes, at " if len(every) == 1 else "write, at ",
                 *lines_of([*writing, *(site for site in sites if site.writes() and not site.partners)]), "."]
     said = {"writes": names_of(writing), "writers": sorted(map(text, writers))}
-    is_one = len(set().union(*(site.variables for site in racing))) == 1
-    remedy = [FLAG * is_one + "hold one lock at ", *lines_of(racing), "."]
+    names = set().union(*(site.variables for site in racing))
+    kinds = {alike(name) for name in names}  # a member of several objects is one, elements of an array aren't
+    is_one = (len(kinds) == 1 and (len(names) == 1 or not min(kinds).endswith((b"]", b"*")))
+              and not re.search(OF_LIBRARY, min(kinds)))
+    tests_it = any(len(site.writers.intersection(reader.threads)) > 1 and not site.reads()
+                   and by_numbers(reader.location or b"") < by_numbers(site.location or b"")
+                   for site in writing for reader in readers)
+    remedy = [(STEP if tests_it else FLAG) * is_one + "hold one lock at ", *lines_of(racing), "."]
     if is_one and any(site.accesses[b"a"] for site in sites):
         remedy = ["make each access at ", *lines_of(racing),
                   " atomic; initialize it before creating threads."]
