@@ -39,6 +39,7 @@ class Reader:
         lasting = {name: {local for _, local in found} for name, found in self.locals.items()}
         lasting = {name: found.pop() for name, found in lasting.items() if len(found) == 1 and found != {""}}
         held, self.traced = collections.defaultdict(lambda: collections.defaultdict(int)), []
+        self.lasting = lasting
         lockers = collections.defaultdict(set)
         for number, line in enumerate(events, 1):
             thread, operation, location = (line.split("|", 2) + [""])[:3]
@@ -185,7 +186,7 @@ def told_apart(locks):
     return frozenset(locks - shared), frozenset(READER.fullmatch(lock)[1] for lock in shared)
 
 
-def is_beside(locks, variables):
+def is_beside(locks, variables, lasting):
     """Whether each variable and its lock are members of one object: their names have the same begin, and a
     block or a function in common."""
     def thing(name):
@@ -194,8 +195,8 @@ def is_beside(locks, variables):
         two = re.fullmatch(r"(.+#[0-9]+)((?:\.[A-Za-z_]\w*|\[[0-9]+\])*(?:\+[0-9]+)?)", name, re.S)
         found = (two[1], two[2]) if two and two[2] else (found[1], found[2], found[3], found[4])
         return (found[0], *found[2:]) if found[1] and not name.startswith("stack.") else None
-    return all(variable in locks and thing(variable) and thing(variable) == thing(locks[variable])
-               for variable in variables)
+    named = {variable: thing(lasting.get(variable, variable)) for variable in variables}
+    return all(variable in locks and its and its == thing(locks[variable]) for variable, its in named.items())
 
 
 class Group:
@@ -551,8 +552,8 @@ class Group:
         is_bare = not any(access.held or access.shared for line in lines for access in self.used(line))
         if not is_bare and not some and len(holding) <= len(lines):
             yield "the lines hold other locks, and are not fewer"
-        if not is_beside(of, self.variables) and not any(access.word == "w" for line in holding
-                                                         for access in self.at(line)) and any(
+        if not self.is_beside(of) and not any(access.word == "w" for line in holding
+                                              for access in self.at(line)) and any(
                 access.word == "r" for line in lines for access in self.used(line)):
             yield "readers alone hold it"
         if (len(set(of.values())) > 1
@@ -581,6 +582,9 @@ class Group:
         if scope in ("writes", "reads") and any(said(access) for line in lines for access in self.used(line)):
             yield f"the lines are no others than {scope}"
         yield from self.check_held(fact["instead"], lines)
+
+    def is_beside(self, of):
+        return is_beside(of, self.variables, self.reader.lasting)
 
     def check_held(self, held, lines):
         """Locks that are held at each access of a line."""
@@ -621,7 +625,7 @@ class Group:
         words = lambda lines: {access.word for access in uses if access.location in lines}
         holders = {access.variable for access in uses if access.location in holding}
         return bool(holding and lacking) and self.variables <= holders and (
-            "w" in words(holding) or "r" not in words(lacking) or is_beside(of, self.variables)) and (
+            "w" in words(holding) or "r" not in words(lacking) or self.is_beside(of)) and (
             bare or any(any(by_line[line]) for line in lacking) or len(holding) > len(lacking))
 
     def check_sometimes(self):

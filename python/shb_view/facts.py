@@ -202,9 +202,10 @@ class Locks:
     `a[3].door`, a variable's own one is that which most of its accesses hold; it has one name for all
     variables."""
 
-    def __init__(self, used, private):
-        """`private` are locks on stacks that one thread alone uses: none of these is told."""
-        self.own, self.private = {}, private
+    def __init__(self, used, private, name):
+        """`private` are locks on stacks that one thread alone uses: none of these is told. `name` gives a
+        variable as the program has it."""
+        self.own, self.private, self.name = {}, private, name
         of_frees = [*itertools.chain(*used.frees.values())]
         self.locks = {variable: set().union(*(use.sums[how] for use in (*its, *of_frees) for how in HOW_HELD))
                       for variable, its in used.variables.items()}
@@ -232,10 +233,10 @@ def held_in(uses):
     return found
 
 
-def sites_of(group, used, private):
+def sites_of(group, used, private, name):
     """The lines that use a group's variables: racing ones first, then those that write, then by how often;
     and their locks."""
-    racing, locks, sites = group.locations(), Locks(used, private), {}
+    racing, locks, sites = group.locations(), Locks(used, private, name), {}
     for use in itertools.chain(*used.variables.values(), *used.frees.values()):
         if use.location not in sites:
             sites[use.location] = Site(use.location)
@@ -417,7 +418,7 @@ def without(sites, racing, lock, locks, whole):
     lacking = [site for site in racing if site.lacks(lock)]
     holding = [site for site in sites if not site.lacks(lock)]
     variables = set().union(*(site.variables for site in racing)) - {b""}
-    if not is_rule(lacking, holding, variables, lock, is_beside(locks.of(lock), variables)):
+    if not is_rule(lacking, holding, variables, lock, is_beside(locks, lock, variables)):
         return None
     scope = scope_of([site for site in sites if site.lacks(lock) and not site.partners], lacking, holding)
     who = {"writes": ["every write"], "reads": ["every read"], "all": ["every other access"],
@@ -438,9 +439,10 @@ def without(sites, racing, lock, locks, whole):
     return Fact("without", said, tag, [sentence], ["hold ", *name, " at ", *lines, "."], lock)
 
 
-def is_beside(locks, variables):
+def is_beside(locks, lock, variables):
     """Whether each variable's lock is a member of the object that the variable is a member of."""
-    pairs = [(object_in(variable), object_in(locks.get(variable, b""))) for variable in variables]
+    its = locks.of(lock)
+    pairs = [(object_in(locks.name(variable)), object_in(its.get(variable, b""))) for variable in variables]
     return all(of_variable and of_variable == of_lock for of_variable, of_lock in pairs)
 
 
