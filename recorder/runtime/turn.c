@@ -15,10 +15,10 @@
    another one in the word at its next hook.
 
    All other changes of hands are made under `guard`.  A waiter stands in `waiting` from its first step in
-   take_turn to its last, put in and taken out by itself.  To be given the turn is no more than to be named in
-   the word: until the waiter has accepted, by a swap like the one above, another may take the turn over, and
-   then it just waits on. In a replay the list of replay.c says to whom the turn is given, and who alone may
-   take it over.
+   take_turn to its last, put in and taken out by itself; after a slice, from when it gave the turn.  To be
+   given the turn is no more than to be named in the word: until the waiter has accepted, by a swap like the
+   one above, another may take the turn over, and then it just waits on. In a replay the list of replay.c says
+   to whom the turn is given, and who alone may take it over.
 
    To raise the count takes longer than all else in a hook, and is of use only while a waiter looks. So no
    hook raises it while `quick_holder` names its thread: from when that has accepted the turn until it gives
@@ -173,9 +173,12 @@ static thread *draw_waiter(void) {
     return waiting[waiting[i] == held ? (i + 1) % waiters : i];
 }
 
-/* Gives the turn away; at the end of a slice not to the held thread. */
-static void hand_over(thread *t, int is_slice_end) {
+/* Gives the turn away; at the end of a slice not to the held thread. Who comes back for it is among the
+   waiters at once: the next one may be done before the system lets this one go on. Does t wait now? */
+enum way_to_give { LEAVES_IT, COMES_BACK, AT_SLICE_END };
+static int hand_over(thread *t, enum way_to_give way) {
     thread *next = 0;
+    int waits = 0;
     lock_guard();
     uint64_t word = atomic_load(&turn);
     if (HOLDER(word) == NAME(t)) {
@@ -183,12 +186,14 @@ static void hand_over(thread *t, int is_slice_end) {
         end_turn(t);
         if (held && draw() % SLICES_HELD == 0) held = 0;
         next = draw_waiter();
-        if (is_slice_end && next && next == held && !is_replaying) {
+        if (way == AT_SLICE_END && next && next == held && !is_replaying) {
             next = 0;
             t->quantum = draw_slice();
         } else {
             holder = 0;
             name_quick_holder();
+            waits = way != LEAVES_IT;
+            if (waits) waiting[waiters++] = t;
             atomic_store(&turn, next_word(next, word));
         }
     }
@@ -196,9 +201,10 @@ static void hand_over(thread *t, int is_slice_end) {
     TEST_YIELD();
     if (next) wake(next);
     t->steps++;
+    return waits;
 }
 
-void give_turn(thread *t) { hand_over(t, 0); }
+void give_turn(thread *t) { hand_over(t, LEAVES_IT); }
 
 static void stop_waiting(thread *t) {
     if (held == t) held = 0;
@@ -355,13 +361,13 @@ static void leave_late_replay(const thread *t, uint64_t word, struct lateness *l
     if (next) wake(next);
 }
 
-void take_turn(thread *t) {
+/* Among the waiters, until it has the turn. */
+static void wait_for_turn(thread *t) {
     struct watch watch = {.word = atomic_load(&turn)};
-    struct timespec patience = {0, waiters ? 10 * PATIENCE_NS : PATIENCE_NS};
+    struct timespec patience = {0, waiters > 1 ? 10 * PATIENCE_NS : PATIENCE_NS};
     struct lateness late = {0, 0};
-    int look = 0, saved = errno;
-    extend_list();
-    if (!take_free(t)) for (;;) {
+    int look = 0;
+    for (;;) {
         int wakes = atomic_load(&t->wakes);                  /* before the turn: a later wake changes it */
         uint64_t word = look ? doubted_word(&watch) : atomic_load(&turn);
         if (!recording || HOLDER(word) == NAME(t)
@@ -371,18 +377,25 @@ void take_turn(thread *t) {
         look = syscall(SYS_futex, &t->wakes, FUTEX_WAIT_PRIVATE, wakes, &patience, 0, 0)
             && errno == ETIMEDOUT;
     }
+}
+
+static void take_or_wait(thread *t, int waits) {
+    int saved = errno;
+    extend_list();
+    if (waits || !take_free(t)) wait_for_turn(t);
     t->quantum = is_replaying ? steps_to_go(t) + 1 : draw_slice();
     errno = saved;
 }
+
+void take_turn(thread *t) { take_or_wait(t, 0); }
 
 /* Lets another thread run a slice, which may give back the lock that t wants: who slept in the system for it
    would mostly be late.  Not where nobody wants the turn, nor where slices are long: to sleep costs less */
 int let_another_run(thread *t) {
     if (!recording) return 0;
     int gives = is_replaying ? --t->quantum <= 0 : waiters && are_slices_short();
-    if (gives) give_turn(t);
+    if (gives) take_or_wait(t, hand_over(t, COMES_BACK));
     else t->steps++;
-    if (gives) take_turn(t);
     return gives;
 }
 
@@ -460,8 +473,9 @@ thread *enter_access(enum yields yields) {
     if (!t || !recording || t->inside) return 0;
     begin_inside(t);
     count_quick(t);
-    if (--t->quantum <= 0 && (is_replaying ? yields : yields == MAY_YIELD && waiters)) hand_over(t, 1);
-    else t->steps++;
+    if (--t->quantum <= 0 && (is_replaying ? yields : yields == MAY_YIELD && waiters)) {
+        if (hand_over(t, AT_SLICE_END)) take_or_wait(t, 1);
+    } else t->steps++;
     if (segment_records && yields && is_segment_full()) next_segment(t);
     return t;
 }

@@ -9,7 +9,8 @@ Properties, in every state:
   record    no access without its record while the recording is on
   wake      no thread sleeps on its futex while the turn names it, nobody has it, or the recording has ended,
             unless some thread is on its way to wake it: no hand-over needs a timeout
-  listed    a thread stands among the waiters once from its first step in take_turn to its last, else never
+  listed    a thread stands among the waiters once from its first step in take_turn to its last, or from when
+            it gave the turn at the end of its slice, else never
   due       while a list of turns is followed nobody has the turn but the thread of its next entry
   turn      by the list of turns that is written each record is made in the turn in which it was made, and a
             turn by a list that is followed ends after as many steps as that says
@@ -113,6 +114,8 @@ class Broken(Exception):
 WAITING_STEPS = {"read_wakes", "read_word", "doubt", "take_name", "count_doubt", "barrier", "end_doubt",
                  "name_again", "look_at_holder",
                  "accept", "swap_in", "leave", "leaving", "wait", "sleep"}
+WAKING_STEPS = {"raise_wakes", "wake"}
+COMES_BACK = {"keep", "put"}  # after the end of a slice: among the waiters from when it gave the turn
 IN_ITS_ACCESS = {"check", "record", "grow", "access"}
 
 
@@ -315,10 +318,13 @@ class Step:
         candidates = waiting & {turns[0][0]} if turns else waiting
         given = {"guard": NONE, "turns": turns,
                  **({} if self.bug == STAYS_NAMED else self.name(NONE, self.state.doubters))}
+        comes = {self.number} if after in COMES_BACK else set()
         if not candidates:
-            yield self.to(after, after="", changed=True, shared={**given, "holder": NONE}, **own)
+            step, later = self.after_hand_over()
+            yield self.to(step, after=later, changed=True,
+                          shared={**given, "holder": NONE, "waiting": waiting | comes}, **own)
         for next in candidates:
-            left = waiting - {next} if self.bug in (UNLISTED, NAMED_RUNS) else waiting
+            left = (waiting - {next} if self.bug in (UNLISTED, NAMED_RUNS) else waiting) | comes
             yield self.to("raise_wakes", changed=True, target=next,
                           shared={**given, "holder": next, "waiting": left}, **own)
 
@@ -331,7 +337,12 @@ class Step:
         threads = list(self.state.threads)
         if threads[self.thread.target].step == "sleep":
             threads[self.thread.target] = self.woken(threads[self.thread.target])
-        yield self.to(self.thread.after, threads, after="", target=0)
+        step, after = self.after_hand_over()
+        yield self.to(step, threads, after=after, target=0)
+
+    def after_hand_over(self):
+        after = self.thread.after
+        return (self.first_of_wait, "check") if after in COMES_BACK else (after, "")
 
     def woken(self, thread):
         if self.bug == NAMED_RUNS:
@@ -474,7 +485,7 @@ class Step:
 
 def check(state, bug):
     """Raises Broken where a property of single states doesn't hold."""
-    waking = {thread.target for thread in state.threads if thread.step in ("raise_wakes", "wake")}
+    waking = {thread.target for thread in state.threads if thread.step in WAKING_STEPS}
     if state.quick not in (NONE, state.holder):
         raise Broken(f"quick: thread {state.quick} is named, thread {state.holder} has the turn")
     if state.turns and state.holder not in (NONE, state.turns[0][0]):
@@ -484,7 +495,8 @@ def check(state, bug):
         if (thread.step == "sleep" and number not in waking
             and (state.holder == number or is_free or not state.on)):
             raise Broken(f"wake: thread {number} sleeps and only a timeout wakes it")
-        if (number in state.waiting) != (thread.step in WAITING_STEPS) and bug != UNLISTED:
+        waits = thread.step in WAITING_STEPS or thread.step in WAKING_STEPS and thread.after in COMES_BACK
+        if (number in state.waiting) != waits and bug != UNLISTED:
             raise Broken(f"listed: thread {number} at {thread.step}")
 
 
