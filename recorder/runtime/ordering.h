@@ -8,7 +8,6 @@
 #define ORDERS(type, name) WRAPS(type, name, (void *object, void *second, word third, word fourth))
 #define CALLED(name) REAL_AS(name)(object, second, third, fourth)
 
-enum { MOST_TRIES = 8 };
 /* A call that may sleep in a replay, where the list has it: with the turn. Handlers of signals run in it,
    also for those that came before in the hook, for it may be them that it waits for. */
 #define SLEEPING(t, call) ({ \
@@ -25,12 +24,12 @@ enum { MOST_TRIES = 8 };
         thread *t = enter(MAY_YIELD); \
         if (!t) return (type)(real); \
         __typeof__(real) r = 0; \
-        int is_busy, tries = 0; \
+        int is_busy; \
         do { \
             is_busy = was_unusual(t); \
             if (!is_busy) r = is_replaying ? SLEEPING(t, real) : quick; \
             if (!is_busy && busy) is_busy = note_unusual(t); \
-        } while (is_busy && tries++ < MOST_TRIES && let_another_run(t)); \
+        } while (is_busy && let_another_run(t)); \
         if (is_busy) r = waits_for_list(t) ? SLEEPING(t, real) : BLOCKING(t, real); \
         if (done) put(t, operation, object, 0, CALLER); \
         leave(t); \
