@@ -60,6 +60,10 @@
 #define LOG_QUICK_HOOKS 4
 #define MOST_STARTS 64                 /* the first threads with which they begin anew */
 #define SLICES_HELD 4                  /* on average */
+#define MOST_LOOKS 4                   /* at threads that may be coming; one is waited for so long */
+#define ARRIVAL_NS 500000
+#define MOST_IN_VAIN 1000              /* of such looks, where a wait is so many: */
+#define LOOKS_OF_A_WAIT 16
 
 __thread thread *self __attribute__((tls_model("initial-exec")));
 /* In a page of its own: a process made by fork begins with an empty one, so handlers of fork that come before
@@ -73,6 +77,7 @@ static _Atomic uint64_t turn;
 static _Atomic int guard;
 static thread *waiting[THREAD_NUMBERS];
 static volatile int waiters;
+static volatile int is_awaited;        /* the holder sleeps until there is a waiter */
 static thread *threads[THREAD_NUMBERS];
 static uint32_t thread_count, serials;
 static uint32_t free_numbers[THREAD_NUMBERS], free_count;   /* to be used again; with the turn */
@@ -237,6 +242,8 @@ static int take_free(thread *t) {
     if (!done) waiting[waiters++] = t;
     if (is_first) held = !held && !done && t->may_be_held ? t : 0;
     unlock_guard();
+    atomic_thread_fence(memory_order_seq_cst);
+    if (is_awaited) syscall(SYS_futex, &waiters, FUTEX_WAKE_PRIVATE, 1, 0, 0, 0);
     if (!is_first) return done;
     atomic_store(&t->began, 1);
     syscall(SYS_futex, &t->began, FUTEX_WAKE_PRIVATE, 1, 0, 0, 0);
@@ -252,6 +259,40 @@ void wait_for_start(thread *t, thread *child) {
         syscall(SYS_futex, &child->began, FUTEX_WAIT_PRIVATE, 0, &(struct timespec){START_SECONDS, 0}, 0, 0);
     t->works = 0;
     errno = saved;
+}
+
+/* Some of them, from any one on; with the turn. */
+static int is_another_coming(const thread *t) {
+    char text[64];
+    uint32_t first = draw() % thread_count, looks = 0;
+    for (uint32_t i = 0; i < thread_count && looks < MOST_LOOKS; i++) {
+        const thread *u = threads[(first + i) % thread_count];
+        if (u == t || u->is_over || !u->began) continue;
+        looks++;
+        if (read_task_file(u->system_id, "syscall", text, sizeof text) > 0 && text[0] == 'r') return 1;
+    }
+    return 0;
+}
+
+/* At the end of a slice: is there a waiter?  Where slices are short one that was woken is waited for: to come
+   takes it longer than many of them. */
+static int is_wanted(thread *t) {
+    static int in_vain;
+    int saved = errno, is_coming;
+    if (waiters || !others || !are_slices_short() || in_vain > MOST_IN_VAIN) return waiters;
+    if (HOLDER(atomic_load(&turn)) != NAME(t)) return 0;
+    t->quantum = draw_slice();
+    t->works = 1;
+    is_coming = is_another_coming(t);
+    if (is_coming) {
+        is_awaited = 1;
+        syscall(SYS_futex, &waiters, FUTEX_WAIT_PRIVATE, 0, &(struct timespec){0, ARRIVAL_NS}, 0, 0);
+        is_awaited = 0;
+    }
+    if (!waiters) in_vain += is_coming ? LOOKS_OF_A_WAIT : 1;
+    t->works = 0;
+    errno = saved;
+    return waiters;
 }
 
 /* The waiter's last step, and the end of its doubt: takes the turn if its word is still the one seen; also
@@ -473,7 +514,7 @@ thread *enter_access(enum yields yields) {
     if (!t || !recording || t->inside) return 0;
     begin_inside(t);
     count_quick(t);
-    if (--t->quantum <= 0 && (is_replaying ? yields : yields == MAY_YIELD && waiters)) {
+    if (--t->quantum <= 0 && (is_replaying ? yields : yields == MAY_YIELD && is_wanted(t))) {
         if (hand_over(t, AT_SLICE_END)) take_or_wait(t, 1);
     } else t->steps++;
     if (segment_records && yields && is_segment_full()) next_segment(t);
@@ -523,7 +564,7 @@ void begin_turns(int slice_, uint64_t seed) {
 }
 
 void restart_turns(thread *t) {
-    waiters = doubters = 0;
+    waiters = is_awaited = doubters = 0;
     held = leaving = 0;
     thread_count = free_count = 0;
     leave_list(t);
