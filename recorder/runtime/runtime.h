@@ -77,6 +77,7 @@ typedef struct thread {
     _Atomic int wakes;                 /* futex: raised to make the thread look at the turn again */
     _Atomic int began;                 /* it was at its first hook; a futex */
     char may_be_held;                  /* there */
+    volatile int place;                /* among the waiters */
     int quantum;                       /* hooks until it gives the turn to a waiter */
     int spins;                         /* how often in a row its last hook left the value as it was */
     uint32_t locks;                    /* that it took and has yet to release; a sum of these */

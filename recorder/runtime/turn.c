@@ -41,10 +41,12 @@
 #define PATIENCE_NS 10000
 #define TEST_YIELD() syscall(SYS_sched_yield)
 #else
-/* then a lone waiter looks at the holder; one of several after ten times it */
+/* then a lone waiter looks at the holder; one of several after ten times it, */
 #define PATIENCE_NS 300000
 #define TEST_YIELD() (void)0
 #endif
+#define LOOKERS 16                     /* if it is one of the first */
+#define SLEEP_NS 500000000             /* then the others see whether they are */
 /* 1 in tests: no waiter looks, so who blocks has to give the turn up */
 #ifndef IS_PATIENT
 #define IS_PATIENT 0
@@ -178,6 +180,11 @@ static thread *draw_waiter(void) {
     return waiting[waiting[i] == held ? (i + 1) % waiters : i];
 }
 
+static void start_waiting(thread *t) {
+    t->place = waiters;
+    waiting[waiters++] = t;
+}
+
 /* Gives the turn away; at the end of a slice not to the held thread. Who comes back for it is among the
    waiters at once: the next one may be done before the system lets this one go on. Does t wait now? */
 enum way_to_give { LEAVES_IT, COMES_BACK, AT_SLICE_END };
@@ -198,7 +205,7 @@ static int hand_over(thread *t, enum way_to_give way) {
             holder = 0;
             name_quick_holder();
             waits = way != LEAVES_IT;
-            if (waits) waiting[waiters++] = t;
+            if (waits) start_waiting(t);
             atomic_store(&turn, next_word(next, word));
         }
     }
@@ -212,12 +219,10 @@ static int hand_over(thread *t, enum way_to_give way) {
 void give_turn(thread *t) { hand_over(t, LEAVES_IT); }
 
 static void stop_waiting(thread *t) {
+    thread *last = waiting[--waiters];
     if (held == t) held = 0;
-    for (int i = 0; i < waiters; i++)
-        if (waiting[i] == t) {
-            waiting[i] = waiting[--waiters];
-            return;
-        }
+    waiting[t->place] = last;
+    last->place = t->place;
 }
 
 static thread *holder_of(uint64_t word) { return HOLDER(word) == NOBODY ? 0 : threads[HOLDER(word) - 1]; }
@@ -239,7 +244,7 @@ static int take_free(thread *t) {
     lock_guard();
     uint64_t word = atomic_load(&turn);
     int done = !recording || (HOLDER(word) == NOBODY && get_turn(t, word));
-    if (!done) waiting[waiters++] = t;
+    if (!done) start_waiting(t);
     if (is_first) held = !held && !done && t->may_be_held ? t : 0;
     unlock_guard();
     atomic_thread_fence(memory_order_seq_cst);
@@ -405,7 +410,6 @@ static void leave_late_replay(const thread *t, uint64_t word, struct lateness *l
 /* Among the waiters, until it has the turn. */
 static void wait_for_turn(thread *t) {
     struct watch watch = {.word = atomic_load(&turn)};
-    struct timespec patience = {0, waiters > 1 ? 10 * PATIENCE_NS : PATIENCE_NS};
     struct lateness late = {0, 0};
     int look = 0;
     for (;;) {
@@ -415,8 +419,10 @@ static void wait_for_turn(thread *t) {
             || (look && !IS_PATIENT && may_get_turn(t, holder_of(word)) && past_its_access(word, &watch)))
             if (accept(t, word, watch.doubts)) break;
         if (look && is_replaying) leave_late_replay(t, word, &late);
-        look = syscall(SYS_futex, &t->wakes, FUTEX_WAIT_PRIVATE, wakes, &patience, 0, 0)
-            && errno == ETIMEDOUT;
+        int may_look = t->place < LOOKERS;
+        long patience = !may_look ? SLEEP_NS : waiters > 1 ? 10 * PATIENCE_NS : PATIENCE_NS;
+        look = syscall(SYS_futex, &t->wakes, FUTEX_WAIT_PRIVATE, wakes, &(struct timespec){0, patience}, 0, 0)
+            && errno == ETIMEDOUT && may_look;
     }
 }
 
