@@ -25,3 +25,11 @@ class Waits(recorder.Case):
                 env = recorder.settings(self.folder / f"{way}.rec", 1, slice, SHB_RECORDS="5000000")
                 ran = recorder.call("timeout", "100", self.folder / "starves", way, env=env)
                 self.assertEqual((ran.returncode, ran.stderr), (0, b""))
+
+    def test_thousands_want_the_turn_at_once(self):
+        """If each of them looked at the holder, that would hardly run: minutes of the processors, in place
+        of 0.8 s."""
+        recorder.build(recorder.PROGRAMS / "crowd.c", "-O1", self.folder / "crowd")
+        env = recorder.settings(self.folder / "app.rec", 1, recorder.OWN_SLICES)
+        recorder.must(recorder.call("sh", "-c", "ulimit -t 30; exec timeout 300 ./crowd", cwd=self.folder,
+                                    env=env))
