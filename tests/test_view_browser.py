@@ -50,6 +50,29 @@ document.body.textContent = "FOUND" + JSON.stringify(found) + "END";
 </script>
 </body>"""
 
+NOT_YET = "no event of this thread yet"
+STEPS = """
+<script>
+"use strict";
+{
+const row = document.querySelector(".group"), slider = row.querySelector(".steps input");
+const press = (key) =>
+  row.firstElementChild.dispatchEvent(new KeyboardEvent("keydown", { key, bubbles: true }));
+const all = (where, from = row) => [...from.querySelectorAll(where)];
+const state = () => [row.querySelector(".steps output").textContent,
+  Number(row.querySelector(".cover").getAttribute("y")) < 1e6,
+  ...all(".both figure").map((it) => all("tr.now", it).map((tr) => tr.dataset.line).join()),
+  ...all(".step").map((it) => it.innerText.replace(/\\s+/g, " "))];
+const found = [];
+for (let left = 5; left; left--) press("ArrowLeft"), found.push(state());
+slider.value = slider.max;
+slider.dispatchEvent(new Event("input"));
+found.push(state());
+document.body.textContent = "FOUND" + JSON.stringify(found) + "END";
+}
+</script>
+</body>"""
+
 BLANKS = """
 <script>
 "use strict";
@@ -117,6 +140,20 @@ class Browser(program.Case):
             self.assertEqual(found["linked"], [True, 1, "group-56"])
             self.assertIn(found["copied"][0], ("Copied", "Press Ctrl+C"))
             self.assertEqual(found["copied"][1], "data race on v56: g.c:56 and g.c:56")
+
+    def test_the_schedule_is_played(self):
+        """By keys and by the slider: the picture is covered below the event, and the code shows where both
+        threads are."""
+        browser = self.browser()
+        if browser:
+            found = self.tried(browser, self.page("--source", EXAMPLES, EXAMPLES / "account.std"), STEPS)
+            self.assertEqual(found[0], ["4 of 4: main reads balance", True, "10", "",
+                                        "account.c:10 balance += (long)amount; holding door", NOT_YET])
+            self.assertEqual([row[:4] for row in found[1:]],
+                             [["3 of 4: main acquires door", True, "9", ""],
+                              ["2 of 4: main reads balance", True, "8", ""],
+                              *[["1 of 4: main starts T1.pay", True, "", ""]] * 2,
+                              ["Both accesses can execute next.", False, "10", "8"]])
 
     def test_blanks_in_names_are_kept(self):
         """Else names that differ look the same."""

@@ -14,7 +14,7 @@ import shb
 from viewing import EXAMPLES, MADE, QUIET, asked, made, recorded_run, run_here, windows
 
 from shb_view import command, names, picture
-from shb_view.view import view_of_run
+from shb_view.view import Stacks, view_of_run
 
 VOID = {"br", "meta"}
 HOSTILE = [b"<script>alert(1)</script>", b'"><img src=x onerror=alert(1)>', b"' onload='alert(1)",
@@ -135,7 +135,7 @@ class Pages(program.Case):
     def test_commands_that_run_it_again(self):
         page = self.page(self.example("account"), turns="out/a b.turns", command="./account 7")
         self.assertEqual(page.data()["groups"][0]["again"], [
-            ["with the same turns of the threads", "shb-record --replay 'out/a b.turns' ./account 7"],
+            ["with the same thread switches", "shb-record --replay 'out/a b.turns' ./account 7"],
             ["in a debugger that stops at the two lines", "shb-record --replay 'out/a b.turns' gdb "
              "-ex 'break account.c:10' -ex 'break account.c:8' -ex run --args ./account 7"]])
 
@@ -221,10 +221,10 @@ class Pages(program.Case):
                       "execute next.",
                       "".join(text for _, text in own.all("details")))
         good, said = self.of_run(program.PATH)
-        verdict = ("Each race that the page shows has a schedule in the page's trace: shb places --variables "
-                   "page.std | shb check page.std finds them good.")
+        verdict = ("Verified: every race on the page has a schedule that shb check accepts."
+                   "shb places --variables page.std | shb check page.std")
         self.assertEqual([(attributes["class"], re.sub(r"\S+/page.std", "page.std", text))
-                          for attributes, text in good.all("p", "verdict")],
+                          for attributes, text in good.all("details", "verdict")],
                          [("verdict good", verdict)])
         self.assertIn("good: after its 0 events of the page's trace both accesses can execute next.",
                       "".join(text for _, text in good.all("details")))
@@ -411,7 +411,9 @@ def drawn(window):
 
 
 class Words:
-    """Stands in for `counting.Kinds`: each word is what it says."""
+    """Stands in for `counting.Kinds` of a trace that wasn't recorded: each word is what it says."""
+
+    stacks = Stacks()
 
     def of(self, number, word, variable):
         return word

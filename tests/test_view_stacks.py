@@ -114,7 +114,7 @@ class Stacks(program.Case):
     def test_groups_behind_known_races_are_told(self):
         trace = b"A|w(x)|a.c:1\nB|w(x)|a.c:2\nA|w(y)|a.c:3\nB|w(y)|a.c:4\n"
         out = run_here([self.file(trace)], behind={(b"a.c:3", b"a.c:4"): {b"y"}})[1]
-        said = "   Found behind known races, which were skipped: real if these are harmless.\n"
+        said = "   Seen only with the known races left out: real if those are harmless.\n"
         self.assertEqual((out.count(said), out.index("2. y: ") < out.index(said)), (1, True), out)
 
     def test_where_a_fiber_was_made(self):

@@ -2,7 +2,7 @@
 // as text alone. Without it each row opens to the group's text.
 "use strict";
 
-const DATA = JSON.parse(document.getElementById("data").textContent), FEW = 3;  // groups that are open from the start
+const DATA = JSON.parse(document.getElementById("data").textContent), FEW = 3;  // of so many groups all are open from the start, of more the first
 const main = document.getElementById("groups"), rows = [...main.querySelectorAll(".group")], known = document.getElementById("known");
 const numberOf = (row) => Number(row.id.slice(6));
 const cell = (row, name) => row.querySelector(`summary .${name}`).textContent;
@@ -25,8 +25,8 @@ const told = (parts) => parts.map((part) => Array.isArray(part) ? make("code", n
 const count = (number, word) => `${number.toLocaleString("en")} ${word}${number === 1 ? "" : "s"}`;
 
 // Copying by a selection works in a file too, where browsers keep the clipboard from scripts.
-function copier(text, words = "Copy") {
-  return make("button", { type: "button", class: "copy", onclick: ({ target }) => {
+function copier(text, what = "", words = "Copy") {
+  return make("button", { type: "button", class: "copy", "aria-label": what ? `Copy: ${what}` : undefined, onclick: ({ target }) => {
     const area = make("textarea", null, text.textContent);
     target.after(area);
     area.select();
@@ -70,11 +70,11 @@ function side(it, number) {
     make("span", { class: "faint" }, "thread ", make("code", null, it.thread), it.head ? [", in ", make("code", null, it.head)] : ""));
   const body = (it.lines || []).map((line, at) => {
     const row = it.first + at, isHit = row === it.hit;
-    return make("tr", { class: isHit ? "hit" : undefined }, make("td", { class: it.held.includes(row) ? "bar on" : "bar" }), make("td", { class: "n" }, row),
+    return make("tr", { class: isHit ? "hit" : undefined, "data-line": row }, make("td", { class: it.held.includes(row) ? "bar on" : "bar" }), make("td", { class: "n" }, row),
       make("td", { class: "n" }, isHit ? make("b", { class: "mark" }, number) : it.atomics.includes(row) ? "•" : ""), make("td", null, make("code", null, line)));
   });
   const called = it.stack >= 0 ? [make("p", { class: "faint" }, "Call stack"), stack(it.stack)] : [];
-  return make("figure", null, head, it.fault && make("p", { class: "some" }, it.fault),
+  return make("figure", { "aria-label": `Access ${number}, by thread ${it.thread}` }, head, it.fault && make("p", { class: "some" }, it.fault),
     body.length ? make("div", { class: "wide" }, make("table", { class: "code" }, make("tbody", null, body))) : "", called);
 }
 
@@ -158,7 +158,7 @@ function picture(its, sides) {
   const drawn = svg("svg", { viewBox: `0 0 ${width} ${height}`, role: "img", "aria-label": "The interleaving; its events as text are below" },
     svg("rect", { class: "band", x: 1, y: band, width: width - 2, height: height - band - 1, rx: 6 }), laneLines(its), lockBars(its), arrows(its),
     svg("text", { class: "both", x: texts, y: band + 17 }, "both can execute next"), svg("line", { class: "next", x1: x[one], y1: y, x2: x[other], y2: y }),
-    eventTexts(its, held, most));
+    eventTexts(its, held, most), svg("rect", { class: "cover", x: 0, y: height, width, height }));
   drawn.style.width = `${width / 12}em`;
   return drawn;
 }
@@ -166,10 +166,49 @@ function picture(its, sides) {
 function pictureFigure(group) {
   const list = group.picture.events.map(([number, , , , , , tip]) => make("li", { value: number }, make("code", null, tip)));
   const kind = group.picture.lanes.length > MOST_BESIDE ? "picture full" : "picture";
-  return make("figure", { class: kind }, make("figcaption", null, make("b", null, "The interleaving"), make("br"), make("span", { class: "faint" },
+  return make("figure", { class: kind, "aria-label": "The interleaving" }, make("figcaption", null, make("b", null, "The interleaving"), make("br"), make("span", { class: "faint" },
     group.note.split("`").map((words, at) => at % 2 ? make("code", null, words) : words))), make("div", { class: "wide" }, picture(group.picture, group.sides)),
-    make("p", { class: "faint" }, "Time runs down; dashed where events are left out. Bars: locks held. Arrows: release to acquire, start, join; dashed: a read sees a write. Behind a line stands the event's number."),
+    make("p", { class: "faint" }, "Time runs down; dashed where events are left out. Bars: locks held. Arrows: release to acquire, start, join; dashed: a read sees a write. The number after a location is the event's."),
     folded("Its events as text", make("ol", { class: "stack events" }, list)));
+}
+
+// The schedule, an event at a time: the picture is covered below the present event, and the code of both threads shows where they are.
+const sameFile = (one, other) => one.replace(/:\d+$/, "") === other.replace(/:\d+$/, "");
+
+function stepper(row, { picture: { lanes, events }, sides, steps }) {
+  const end = events.length - 2, said = make("output");
+  if (!end) return "";
+  const slider = make("input", { type: "range", min: 0, max: end, value: end, "aria-label": "Event of the schedule", oninput: show });
+  const button = (sign, label, by) => make("button", { type: "button", "aria-label": label, onclick: () => go(by) }, sign);
+  function show() {
+    const now = Number(slider.value), isEnd = now === end, [, lane, y, , operation] = events[now];
+    slider.setAttribute("aria-valuetext", isEnd ? "both accesses" : `event ${now + 1} of ${end}`);
+    said.textContent = isEnd ? "Both accesses can execute next." : `${now + 1} of ${end}: ${lanes[lane]} ${operation}`;
+    row.querySelector(".cover").setAttribute("y", isEnd ? 1e6 : y + 18);
+    row.querySelectorAll(".both figure").forEach((figure, number) => showSide(figure, number, now, isEnd));
+  }
+  function showSide(figure, number, now, isEnd) {
+    const its = events[end + number][1];
+    const last = isEnd ? end + number : events.slice(0, now + 1).map((event) => event[1]).lastIndexOf(its);
+    const [at, code, locks] = steps[last] || [["no event of this thread yet"], "", []], isShown = last >= 0 && sameFile(at.flat().join(""), sides[number].at.flat().join(""));
+    for (const line of figure.querySelectorAll("tr")) line.classList.toggle("now", isShown && at.flat().join("").endsWith(`:${line.dataset.line}`));
+    figure.classList.toggle("going", !isEnd);
+    figure.querySelector(".step")?.remove();
+    if (!isEnd) figure.firstChild.after(make("p", { class: "step" }, told(at), " ", code && make("code", { class: "faint" }, code), " ", make("span", { class: "held" }, told(locks))));
+  }
+  function go(by) {
+    slider.value = Number(slider.value) + by;
+    show();
+  }
+  row.addEventListener("keydown", (event) => {
+    const by = { ArrowLeft: -1, ArrowRight: 1 }[event.key];
+    if (!by || event.ctrlKey || event.metaKey || event.altKey || /^(INPUT|SELECT|TEXTAREA)$/.test(event.target.nodeName)) return;
+    go(by);
+    event.preventDefault();
+  });
+  const found = make("div", { class: "steps" }, make("b", null, "Step through the race"), button("\u25C0", "Step back", -1), button("\u25B6", "Step forward", 1), slider, said);
+  said.textContent = `${count(end, "event")}, then both accesses can execute`;
+  return found;
 }
 
 function draw(row) {
@@ -178,12 +217,12 @@ function draw(row) {
   row.classList.add("drawn");
   const commands = group.again.map(([what, words]) => {
     const line = make("pre", { class: "command" }, words);
-    return make("div", { class: "line" }, make("span", null, what), line, copier(line));
+    return make("div", { class: "line" }, make("span", null, what), line, copier(line, what));
   });
-  const asText = folded("As text, for an issue", copier(text)), head = `#${row.id}`;
+  const asText = folded("As text, for an issue", copier(text, "as text")), head = `#${row.id}`;
   text.before(make("div", { class: "body" }, group.about.map((parts) => make("p", null, told(parts))),
-    make("p", { class: "links" }, make("a", { href: head, "aria-label": `Link to group ${numberOf(row)}` }, head), copier(text, "Copy as text")),
-    make("div", { class: "pair wide-left" }, make("div", { class: "both" }, group.sides.map((it, at) => side(it, at + 1))), pictureFigure(group),
+    make("p", { class: "links" }, make("a", { href: head, "aria-label": `Link to group ${numberOf(row)}` }, head), copier(text, "", "Copy as text")),
+    stepper(row, group), make("div", { class: "pair wide-left" }, make("div", { class: "both" }, group.sides.map((it, at) => side(it, at + 1))), pictureFigure(group),
       make("div", null, commands.length ? [make("h3", null, "Run this interleaving again"), ...commands] : [], stacks(group))), make("h3", null, "Every line that uses the variable"), make("div", { class: "wide" }, sites(group)), asText));
   asText.append(text);
 }
@@ -217,7 +256,7 @@ function wordsOf(row) {
   const group = DATA.groups[numberOf(row) - 1];
   const used = group ? [...group.sides.map((it) => it.stack), ...group.stacks.flatMap((it) => it[1].map((one) => one[1]))].filter((one) => one >= 0) : [];
   const functions = used.flatMap((one) => DATA.stacks[one]).map((one) => DATA.frames[one][0].flat().join(" "));
-  return [row.textContent, group ? [...group.sites.flat(4), ...group.sides.map((it) => it.head)].join(" ") : "", ...new Set(functions)].join("\n").toLowerCase();
+  return [row.firstElementChild.textContent, row.querySelector("pre:not(.command)").textContent, group ? [...group.sites.flat(4), ...group.sides.map((it) => it.head)].join(" ") : "", ...new Set(functions)].join("\n").toLowerCase();
 }
 
 function chooser(label, of) {
@@ -245,13 +284,18 @@ function filter() {
 }
 
 function move(event) {
-  if (event.target === field && event.key === "Escape") { field.value = ""; filter(); }
-  if (event.ctrlKey || event.metaKey || event.altKey || /^(INPUT|SELECT|TEXTAREA)$/.test(event.target.nodeName)) return;
   const seen = summaries.filter((it) => it.getClientRects().length), at = seen.indexOf(event.target);
+  if (event.target === field && /^(Escape|ArrowDown|Enter)$/.test(event.key)) {
+    if (event.key !== "Escape") seen[0]?.focus();
+    else if (!field.value) field.blur();
+    else field.value = "", filter();
+    event.preventDefault();
+  }
+  if (event.ctrlKey || event.metaKey || event.altKey || /^(INPUT|SELECT|TEXTAREA)$/.test(event.target.nodeName)) return;
   const next = { ArrowDown: at + 1, ArrowUp: at - 1, Home: 0, End: seen.length - 1 }[event.key];
   const row = event.target.closest(".group");
   if (event.key === "/") field.focus();
-  else if (at >= 0 && next !== undefined) (seen[next] || seen[at]).focus();
+  else if (seen.length && next !== undefined && (at >= 0 || event.target === document.body)) (seen[next] || seen[at] || seen[0]).focus();
   else if (event.key === "Escape" && row) row.firstElementChild.focus(), row.open = at < 0 && row.open;
   else return;
   event.preventDefault();
@@ -271,14 +315,21 @@ function openTarget() {
 if (rows.length > 1) {
   const heads = { no: "No.", var: "Variable", fact: "Fact", at: "Line", races: "Races" };
   main.before(make("div", { class: "filter" }, field, file, fact, output, make("span", { class: "faint keys" },
-    make("kbd", null, "/"), " filter, ", make("kbd", null, "↑↓"), " rows, ", make("kbd", null, "Enter"), " opens, ", make("kbd", null, "Esc"), " back")),
+    make("kbd", null, "/"), " filter, ", make("kbd", null, "↑↓"), " rows, ", make("kbd", null, "Enter"), " opens, ", make("kbd", null, "←→"), " step, ", make("kbd", null, "Esc"), " back")),
   make("div", { class: "heads", role: "group", "aria-label": "Sort by" }, Object.entries(heads).map(([name, label]) => make("button", { type: "button", name, class: name,
     onclick: () => sort(name, sorted[0] === name ? -sorted[1] : name === "races" ? -1 : 1) }, label))));
   document.querySelector(".heads .no").setAttribute("aria-pressed", "true");
   filter();
   addEventListener("keydown", move);
 }
-for (const row of rows.length > FEW ? [] : rows) if (!known || !known.contains(row)) row.open = true;
+const asked = rows.filter((row) => !known || !known.contains(row));
+for (const row of asked.slice(0, rows.length > FEW ? 1 : FEW)) row.open = true;
 addEventListener("hashchange", openTarget);
-addEventListener("beforeprint", () => rows.forEach((row) => row.open && draw(row)));
+// On paper all are open that are asked for.
+addEventListener("beforeprint", () => rows.forEach((row) => {
+  row.toggleAttribute("data-closed", !row.open && asked.includes(row));
+  row.open = row.open || asked.includes(row);
+  draw(row);
+}));
+addEventListener("afterprint", () => document.querySelectorAll("[data-closed]").forEach((row) => row.open = false));
 openTarget();

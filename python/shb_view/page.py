@@ -3,7 +3,6 @@ group's text for an issue. What page.js draws a group from stands in one element
 never become markup."""
 
 import binascii
-import itertools
 import json
 import shlex
 
@@ -18,9 +17,9 @@ from shb_view.names import code_line, readable, short
 from shb_view.picture import picture
 from shb_view.source import excerpt
 from shb_view.stacks import frame_parts, origins
-from shb_view.words import (VERBS, MOST_SITES, NO_LOCK, Code, about, accesses_text, bad_words, listed,
-                            lock_parts, lock_words, notes_of, partner_parts, place, share, summary,
-                            thread_parts)
+from shb_view.words import (COUNTS, MOST_LOCKS, MOST_SITES, NO_LOCK, VERBS, Code, about, accesses_text,
+                            bad_words, listed, lock_parts, lock_words, notes_of, partner_parts, place, share,
+                            summary, thread_parts, verified_words)
 
 NAME, LINE = 80, 240  # columns
 # of a racing line; of each; threads, blocks and locks of a group
@@ -80,6 +79,7 @@ def page_parts(view):
     yield "\n</main>\n"
     if view.groups > len(view.sections):
         yield element("p", f"and {counted(view.groups - len(view.sections), 'more group')}")
+    yield joined(element("p", note, class_="faint") for note in notes_of(view) if note in COUNTS)
     yield island(data(view)) + "\n" + element("script", Markup(script)) + "\n</body>\n</html>\n"
 
 
@@ -102,12 +102,15 @@ def header(view):
     verdict = ([element("p", with_commands(bad_words(view)), class_="verdict bad")]
                if view.verdict.is_good is False else [])
     races, size = summary(view)
-    kinds = itertools.chain(["verdict good"] * bool(view.verdict.is_good), itertools.repeat("faint"))
-    notes = [element("p", with_commands(note), class_=kind) for note, kind in zip(notes_of(view), kinds)]
+    notes = [note for note in notes_of(view) if note not in COUNTS]
+    if view.verdict.is_good:
+        verdict = [element("details", element("summary", with_commands(verified_words(view))),
+                           element("code", view.judge), class_="verdict good")]
+        del notes[0]
     return element("header", *verdict, element("h1", view.title),
                    *(element("p", note, class_="verdict bad") for note in view.notes),
-                   element("p", races, class_="sum"), element("p", size, class_="faint size"), *notes,
-                   *(element("p", line, class_="faint") for line in view.about))
+                   element("p", races, class_="sum"), element("p", size, class_="faint size"),
+                   *(element("p", with_commands(note), class_="faint") for note in [*notes, *view.about]))
 
 
 def group_row(view, number, section, tag):
@@ -119,7 +122,7 @@ def group_row(view, number, section, tag):
              "at": marked([place(blamed(section))], NAME),
              "races": counted(section.group.races() or section.group.count(),
                               "race" if section.group.races() else "place")}
-    cells = [element("span", cell, class_=name) for name, cell in cells.items()]
+    cells = [element("h2" if name == "var" else "span", cell, class_=name) for name, cell in cells.items()]
     return element("details", element("summary", joined(cells, " ")),
                    element("pre", "\n".join(issue_lines(view, section))),
                    class_=f"group rank{RANKS[section.fact.form]}", id=f"group-{number}")
@@ -165,9 +168,11 @@ def group_data(view, section, tables):
               bool(site.partners)]
              for site in section.sites[:MOST_SITES]]
     sides = [side_data(view, section, access, tables) for access in section.window.accesses]
+    drawn = picture(section.window, view.kinds)
     return {"about": list(map(told, about(section))), "sides": sides,
             "note": order_text(view, section.window),
-            "picture": picture(section.window, view.kinds), "again": again(view, section), "sites": sites,
+            "picture": drawn, "again": again(view, section), "sites": sites,
+            "steps": [step_data(view, section.window.events[event]) for event, *_ in drawn["events"]],
             "more": max(0, len(section.sites) - MOST_SITES),
             "stacks": other_stacks(section, {side["stack"] for side in sides}, tables),
             "origins": [[told(parts), tables.add(frames)]
@@ -198,6 +203,15 @@ def side_data(view, section, access, tables):
     return side
 
 
+def step_data(view, shown):
+    """Where an event is, its line of code, and the locks that its thread holds after it."""
+    locks = [name for name, _ in shown.locks if name != shown.freed]
+    locks += [shown.named.name] * (shown.event.word == b"acq" and shown.named.name not in locks)
+    code = code_line(view.source.code(shown.event.location) or b"", LINE)
+    held = ["holding ", *listed(map(lock_parts, locks), MOST_LOCKS)] if locks else [NO_LOCK]
+    return [told([place(shown.event.location)]), code, told(held)]
+
+
 def function_words(head, frames, location):
     """The function of a location: the line that it begins with, where this has its name, as not in a class;
     else its name in the stack."""
@@ -209,14 +223,14 @@ def function_words(head, frames, location):
 def again(view, section):
     """Commands that run the interleaving again, alone and in a debugger, and that judge its schedule."""
     has_schedule = bool(view.judge and section.window.schedule)
-    judged = [["its schedule, made again and judged", view.judge]] * has_schedule
+    judged = [["recompute and check its schedule", view.judge]] * has_schedule
     if not view.turns:
         return judged
     first = f"shb-record --replay {shlex.quote(view.turns)}"
     lines = dict.fromkeys(section.window.events[access].event.location for access in section.window.accesses)
     stops = [f"-ex {shlex.quote('break ' + readable(line))}" for line in lines if line_of(line)]
     in_debugger = " ".join([first, "gdb", *stops, "-ex run --args", view.command])
-    return [["with the same turns of the threads", f"{first} {view.command}"],
+    return [["with the same thread switches", f"{first} {view.command}"],
             ["in a debugger that stops at the two lines", in_debugger], *judged]
 
 

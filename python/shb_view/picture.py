@@ -3,11 +3,13 @@ accesses last. Where lines and texts stand is decided here; the script writes th
 window. All lines are left of the column of texts, so none crosses a text."""
 
 import collections
+import re
 
 from shb_view.names import short
 from shb_view.words import NO_LOCK, VERBS, flat_in, lock_parts
 
 TEXT, TIP = 36, 240  # columns
+VERSION = rb"(?s)@@?[0-9]+([<>].*)?$"
 MOST_BARS = 4
 STUB = 0.4  # rows that a bar goes on where its lock's acquire or release isn't shown
 WORDS = {**VERBS, b"acq": "acquires", b"rel": "releases", b"fork": "starts", b"join": "joins",
@@ -28,13 +30,16 @@ Bar = collections.namedtuple("Bar", "lane name top bottom")
 def picture(window, kinds):
     """`x` has the place of each lane and `texts` that of all texts, `band` is the top of the band
     with both accesses."""
-    events = [*window.before, *window.accesses]
-    names = dict.fromkeys(window.events[event].event.thread for event in [*window.accesses, *window.before])
+    ends = {event for edge in window.edges for event in edge}
+    before = [event for event in window.before
+              if event in ends or not version_of(kinds, window.events[event])]
+    events = [*before, *window.accesses]
+    names = dict.fromkeys(window.events[event].event.thread for event in [*window.accesses, *before])
     lanes = {thread: lane for lane, thread in enumerate(names)}
     edges = [Edge(events.index(source), events.index(event), is_seen(window, source, event))
              for source, event in needed(window, events)]
     drawn = Layout(len(lanes), [lanes[window.events[event].event.thread] for event in events], edges,
-                   bars_of(window, events, lanes))
+                   bars_of(window, events, lanes, len(before)))
     return {"lanes": [short(thread, TEXT) for thread in lanes], "x": drawn.x, "texts": drawn.texts,
             "band": drawn.band, "height": drawn.band + 26 + 3 * ROW,
             "events": [event_data(window, kinds, event, drawn, at) for at, event in enumerate(events)],
@@ -140,7 +145,8 @@ def event_data(window, kinds, event, drawn, at):
     shown = window.events[event]
     word = kinds.of(event, shown.event.word, shown.event.name)
     location = short(shown.event.location, TEXT) if shown.event.location else "(no location)"
-    name = short(shown.named.name, TEXT - 9) if shown.named.name else ""
+    version = version_of(kinds, shown)
+    name = short(shown.named.name[:version.start()] if version else shown.named.name or b"", TEXT - 9)
     others = [lock for lock in drawn.unnamed(at) if lock != name] if at < drawn.last else []
     number = f"{at - drawn.last + 1}  " if at >= drawn.last else ""
     return [event, drawn.events[at], drawn.y[at], drawn.text(at), f"{number}{WORDS[word]} {name}".rstrip(),
@@ -157,8 +163,15 @@ def gaps(window, events):
     return found
 
 
-def bars_of(window, events, lanes):
-    rows = {event: min(row, len(window.before)) for row, event in enumerate(events)}
+def version_of(kinds, shown):
+    """What follows the name of a lock that stands for a version of an atomic, a semaphore or the like in a
+    recorded run, or nothing. Its events are drawn only where an arrow ends."""
+    of_lock = kinds.stacks.numbers and shown.event.word in (b"acq", b"rel") and shown.named.name
+    return of_lock and re.search(VERSION, of_lock)
+
+
+def bars_of(window, events, lanes, last):
+    rows = {event: min(row, last) for row, event in enumerate(events)}
     bars = {}
     for event in events:
         shown = window.events[event]

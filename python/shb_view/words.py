@@ -17,6 +17,9 @@ MOST_SITES = 20  # lines that are shown of a group
 MOST_LOCKS, MOST_SOME, MOST_PARTNERS, MOST_THREADS = 8, 3, 8, 3
 MOST_VARIABLES = 8  # that are named of a group
 NO_LOCK = "no lock held"
+# Of a trace that was recorded, and of a run.
+COUNTS = ("Counts are those of the trace. The recorder omits repeats: a loop may count as two accesses.",
+          'Counts such as "6 of 7" cover the whole run, without repeated accesses.')
 
 
 class Code(bytes):
@@ -126,13 +129,18 @@ def bad_words(view):
     return f"`shb check` finds the schedules of this page bad: {view.verdict.words}. None is shown."
 
 
+def verified_words(view):
+    """What is said of schedules that `shb check` finds good."""
+    races = [section.window.schedule for section in view.sections if section.window]
+    has = f"{len(races) - races.count(None):,} of {counted(len(races), 'race')} on the page have"
+    has = has if None in races else "every race on the page has"
+    return f"Verified: {has} a schedule that `shb check` accepts."
+
+
 def notes_of(view):
     """What the reader has to know of the report."""
     if view.verdict.is_good:
-        races = [section.window.schedule for section in view.sections if section.window]
-        has = f"{len(races) - races.count(None):,} of {counted(len(races), 'race')} on the page have"
-        has = has if None in races else "Each race that the page shows has"
-        yield f"{has} a schedule in the page's trace: `{view.judge}` finds them good."
+        yield f"{verified_words(view)} Check again: `{view.judge}`."
     elif view.verdict.is_good is None and view.made.races and view.verdict.words:
         yield view.verdict.words
     if not view.made.counts.events:
@@ -141,9 +149,7 @@ def notes_of(view):
         yield ("Any two conflicting accesses are ordered in this trace. A run with another interleaving may "
                "have races.")
     if view.sections and view.stacks.numbers:
-        yield ("Numbers as 6 of 7 are of the accesses recorded in the whole run: repeats are omitted."
-               if view.of_run else
-               "Counts are those of the trace. The recorder omits repeats: a loop may count as two accesses.")
+        yield COUNTS[view.of_run]
     if view.made.is_sample:
         yield ("The trace has too many races to look at each. Call stacks are those of one race of each "
                "variable at each place.")
@@ -176,7 +182,7 @@ def about(section):
 
 def told_of(section):
     """What is said of a group's fact, each as parts: its sentences, and what would order the accesses."""
-    behind = [["Found behind known races, which were skipped: real if these are harmless."]]
+    behind = [["Seen only with the known races left out: real if those are harmless."]]
     unseen = [["Perhaps ordered: code of both sides calls, or is called by, ",
                *listed([[Code(module)] for module in section.unseen], MOST_SOME),
                ", whose own atomics and futexes aren't seen."]] * bool(section.unseen)

@@ -60,7 +60,7 @@ class Behind(recorder.Case):
                 continue
             self.assertEqual({place["state"] for place in found["places"]}, {"known", "behind"})
             self.assertEqual(found["summary"]["behind"], found["summary"]["unknown"])
-            self.assertIn("   Found behind known races, which were skipped: real if these are harmless.\n",
+            self.assertIn("   Seen only with the known races left out: real if those are harmless.\n",
                           said)
             self.assertIn("(behind known races: real if these are harmless), 1 known one skipped;", said)
             self.assertIn("\ttries\n", (self.folder / "out" / "unknown.places").read_text())

@@ -67,9 +67,9 @@ class Schedules(recorder.Case):
         [group] = document["groups"]
         trace, schedule = self.folder / "out" / group["trace"], group["schedule"]
         command = f"shb places --variables out/{trace.name} | shb check out/{trace.name}"
-        words = "Each race that the page shows has a schedule in the page's trace: "
-        self.assertIn(f"shb-record: {words}`{command}` finds them good.\n", said)
-        self.assertEqual(drawn["again"][-1], ["its schedule, made again and judged", command])
+        words = "Verified: every race on the page has a schedule that `shb check` accepts. Check again: "
+        self.assertIn(f"shb-record: {words}`{command}`.\n", said)
+        self.assertEqual(drawn["again"][-1], ["recompute and check its schedule", command])
         self.assertIn("`shb check` found the schedule of race ", drawn["note"])
         self.assertEqual((status, self.judged(command)), (66, b"ok 1\n"))
         report = self.report_of(trace, schedule)
@@ -94,9 +94,9 @@ class Schedules(recorder.Case):
         source.write_text(WIDE)
         _, said, document, page, _ = self.record(source)
         self.assertEqual(document["summary"]["places"], MANY)
-        self.assertIn("Each race that the page shows has a schedule in the page's trace: ", said)
+        self.assertIn("Verified: every race on the page has a schedule that `shb check` accepts.", said)
         self.assertTrue(all(group["schedule"]["is_checked"] for group in document["groups"][:200]))
-        self.assertEqual((len(document["groups"]), page.count("<summary>")), (MANY, MANY))
+        self.assertEqual((len(document["groups"]), page.count("<h2 ")), (MANY, MANY))
         self.assertLess(len(page.encode()), 8_000_000)
 
     def test_schedules_end_before_their_races(self):
