@@ -1,10 +1,14 @@
 """What a command found, in the form that programs read. docs/FORMATS.md has it."""
 
 import json
+import os
 
+from shb_common.files import open_regular
 from shb_common.parts import installed
+from shb_common.words import Refused, printable
 
 FORM, VERSION = "shb-places", 1
+NAME, MOST_BYTES = "places.json", 1 << 30
 
 
 def text(name):
@@ -63,3 +67,27 @@ def document(command, summary, places, **more):
 
 def in_bytes(found):
     return (json.dumps(found) + "\n").encode()
+
+
+def read(path, look=lambda entry: entry["accesses"]):
+    """An earlier result, by the path of it or of its folder. `look` fails at an entry with a part missing."""
+    path = os.path.join(path, NAME) if os.path.isdir(path) else path
+    with open_regular(path) as file:
+        text = file.read(MOST_BYTES)
+    try:
+        found = parsed(text)
+        if found["form"] != FORM or found["version"] != VERSION:
+            raise ValueError(f"it isn't of form {FORM}, version {VERSION}")
+        for entry in found["places"]:
+            look(entry)
+        return found
+    except (ValueError, KeyError, TypeError, AttributeError, RecursionError) as fault:
+        said = str(fault) if isinstance(fault, ValueError) else "a part of it is missing, or of another kind"
+        raise Refused(f"{printable(os.fsencode(path))}: {said}") from None
+
+
+def parsed(text):
+    try:
+        return json.loads(text)
+    except ValueError:
+        raise ValueError(f"this is no {NAME} of `shb-farm` or `shb-record`") from None

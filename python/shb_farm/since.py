@@ -5,16 +5,9 @@ and by variables whose names last from run to run. So a place whose lines moved 
 """
 
 import collections
-import json
-import os
 
 from shb_common import known, result
-from shb_common.files import open_regular
 from shb_common.locations import parts_of
-from shb_common.words import Refused, printable
-
-MOST_BYTES = 1 << 30
-NAME = "places.json"
 
 
 # What is new since `name`: how many places are new and the same; those that are gone, as their two locations
@@ -30,26 +23,9 @@ def keys(sides, variables):
 
 def read(path):
     """By their keys the places of an earlier result: two locations, and their variables."""
-    path = os.path.join(path, NAME) if os.path.isdir(path) else path
-    with open_regular(path) as file:
-        text = file.read(MOST_BYTES)
-    try:
-        found = parsed(text)
-        if found["form"] != result.FORM or found["version"] != result.VERSION:
-            raise ValueError(f"it isn't of form {result.FORM}, version {result.VERSION}")
-        return [(keys_of_entry(entry), [*(access["location"] for access in entry["accesses"]),
-                                        ", ".join(one["name"] for one in entry["variables"])])
-                for entry in found["places"]]
-    except (ValueError, KeyError, TypeError, AttributeError, RecursionError) as fault:
-        said = str(fault) if isinstance(fault, ValueError) else "a part of it is missing, or of another kind"
-        raise Refused(f"{printable(os.fsencode(path))}: {said}") from None
-
-
-def parsed(text):
-    try:
-        return json.loads(text)
-    except ValueError:
-        raise ValueError(f"this is no {NAME} of `shb-farm` or `shb-record`") from None
+    return [(keys_of_entry(entry), [*(access["location"] for access in entry["accesses"]),
+                                    ", ".join(one["name"] for one in entry["variables"])])
+            for entry in result.read(path, keys_of_entry)["places"]]
 
 
 def keys_of_entry(entry):

@@ -111,6 +111,9 @@ def add_runs(parser):
                         help="record N runs at once (as many as there are processors; 1 with --replay, and "
                         "if standard input is a file or pipe that isn't at its end). What they write is in "
                         "files first, and printed run by run")
+    how_often.add_argument("--join", action="store_true",
+                           help="run nothing: PROGRAM and its words are folders of results, as of several "
+                           "machines, which become one in DIR (places.json, unknown.places, index.html)")
     how_often.add_argument("--live", action="store_true",
                            help="for a program that runs on: each place is shown while it runs, once. "
                            "The run is recorded in segments. If they come faster than they can be analysed, "
@@ -131,6 +134,8 @@ def arguments(words):
     if not found.words:
         parser.error("no program is named")
     found.program, *found.arguments = found.words
+    if found.join and not found.folder:
+        parser.error("--join: -o names the folder of the joined results")
     found.folder = os.path.abspath(found.folder or os.path.basename(found.program) + ".shb")
     if "%p" in found.folder or "%s" in found.folder:
         parser.error("the folder of the results can't have %p or %s in its name")
@@ -307,7 +312,11 @@ def conclude(look, rows, status):
 def main(words):
     open_standard_files()
     try:
-        options = completed(arguments(words))
+        options = arguments(words)
+        if options.join:
+            from shb_record.joining import join
+            return join(options)
+        options = completed(options)
         status = check_program(options.program)
         if status:
             return status

@@ -4,11 +4,10 @@ import os
 import re
 import shlex
 
-from shb_common.words import counted, in_html
 from shb_common import result, sarif
 from shb_common.places import unknown_places
-from shb_common.parts import part_of_page
 from shb_common.programs import pair_of
+from shb_record.index import index
 from shb_record.places import count, table
 
 NUMBERS = r"#\d+| \(\d+ (?:or more )?(?:variables|blocks)\)|(?<= and )\d+ (?:or more )?(?=others)"
@@ -22,10 +21,12 @@ def tables_of(look, rows, status):
         found.update(result.entries_of((process, trace), places))
         groups += [{**group, "process": process, "trace": os.path.basename(trace)} for group in its["groups"]]
     entries = [entry(look, row, result.entry_of(found, row)) for row in rows]
+    its = document(look, rows, entries, groups, status)
+    title = shlex.join([look.options.program, *look.options.arguments])
     return {"unknown.places": unknown_places(rows), "places.tsv": b"".join(table(rows)),
-            "places.json": result.in_bytes(document(look, rows, entries, groups, status)),
+            "places.json": result.in_bytes(its),
             "places.sarif": log(look, rows, entries, status),
-            "index.html": index(look, rows)}
+            "index.html": index(title, its)}
 
 
 def document(look, rows, entries, groups, status):
@@ -82,19 +83,3 @@ def access_of(one, sources):
     frames = [Frame(*(frame[name].encode() for name in ("function", "location")),
                     frame.get("in_system", False)) for frame in one["stacks"][0]["frames"]]
     return sarif.Access(one["thread"].encode(), one["operation"].encode(), frames, sources)
-
-
-def index(look, rows):
-    """A page with a name that stays: each process with its page and its groups."""
-    text = ["<!doctype html>", '<html lang="en"><meta charset="utf-8">',
-            '<meta name="viewport" content="width=device-width, initial-scale=1">',
-            f"<title>Data races</title><style>{part_of_page('page.css')}</style>",
-            f"<h1>{in_html(shlex.join([look.options.program, *look.options.arguments]))}</h1>",
-            f"<p>{counted(count(row for row in rows if not row.is_known), 'unknown place')} with races</p>"]
-    for (process, trace), found in look.found.items():
-        page = os.path.splitext(os.path.basename(trace))[0] + ".html"
-        text.append(f'<h2><a href="{page}">{in_html(process)}</a></h2><ul>')
-        heads = dict.fromkeys(f"{place.get('about') or place['variables'][0]['name']}: {place['headline']}"
-                              for place in found["places"] if place["variables"])
-        text += [f"<li>{in_html(head)}</li>" for head in heads] + ["</ul>"]
-    return "\n".join([*text, "</html>", ""]).encode(errors="backslashreplace")

@@ -132,7 +132,7 @@ class Results(recorder.Case):
 
     def test_notes_are_said_once_behind_the_races(self):
         said = self.record("--runs", "2", self.build(RACE))[1]
-        note = "are of the accesses recorded in the whole run"
+        note = "cover the whole run, without repeated accesses"
         self.assertEqual(said.count(note), 1, said)
         self.assertLess(said.index("1. hits: "), said.index(note))
 
@@ -140,8 +140,9 @@ class Results(recorder.Case):
         self.record("-o", "out", self.build(RACE))
         text, [page] = ((self.folder / "out" / "index.html").read_text(),
                         (self.folder / "out").glob("run*.html"))
-        self.assertIn(f'<a href="{page.name}">run 1, process ', text)
-        self.assertIn("<li>hits: app.c:5 writes without a lock</li>", text)
+        self.assertIn("1 bug in 1 file: 1 place with races", text)
+        self.assertIn(f'<a href="{page.name}#group-1"><code>hits</code></a></td>'
+                      "<td>app.c:5 writes without a lock<br>", text)
         self.assertIn("prefers-color-scheme: dark", text)   # it has the page's style
 
     def test_what_is_said_of_a_group_names_it(self):
