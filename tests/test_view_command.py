@@ -232,6 +232,9 @@ class Files(Fake):
         self.assertEqual(self.said([none]), f"{shown}: No such file or directory")
         self.assertEqual(self.said([self.folder]), f"{self.folder} isn't a regular file: the trace is read "
                                                    "more than once, so save it to a file")
+        (self.folder / "made-by-shb-record.txt").touch()
+        self.assertEqual(self.said([self.folder]), f"{self.folder} is a folder of results: index.html in it "
+                                                   "is their overview, and run*.std are the traces")
         self.assertEqual(self.said(["--source", none, TRACE]), f"--source: {shown} isn't a folder")
 
     def test_a_pipe_is_no_trace(self):

@@ -8,6 +8,9 @@ from shb_common.standard import tell
 from shb_common.words import printable
 
 COLUMNS = 80
+# What other tools call an option.
+OF_OTHERS = {"--suppressions": "--known", "--baseline": "--known", "--repeat": "--runs",
+             "--threads": "--jobs"}
 
 
 def filled(text):
@@ -44,11 +47,24 @@ class Parser(argparse.ArgumentParser):
         tell(f"{self.format_usage()}{self.prog}: {printable(os.fsencode(message))}")
         self.exit(self.status)
 
+    def nearest(self, word):
+        """The option that a word may stand for, by its letters or by what other tools call it."""
+        import difflib  # takes its time, and is for wrong words alone
+        mine = [name for action in self._actions for name in action.option_strings if name.startswith("--")]
+        bare = word.partition("=")[0]
+        others = OF_OTHERS.get(bare)
+        return others if others in mine else next(iter(difflib.get_close_matches(bare, mine, 1)), None)
+
     def parsed(self, words):
         self.add_argument("--version", action=Version, nargs=0, help="print the version and exit")
         if any("\0" in word for word in words):
             self.error("a word has a NUL")
-        return self.parse_args(words)
+        found, unknown = self.parse_known_args(words)
+        if unknown:
+            near = self.nearest(unknown[0]) if unknown[0].startswith("--") else None
+            self.error(f"unrecognized arguments: {' '.join(unknown)}"
+                       + f" (did you mean {near}?)" * bool(near))
+        return found
 
 
 def number(least):

@@ -39,7 +39,11 @@ OFFSET = rb"\+[0-9]+$"
 
 # A line of the file. `sides` has of each side whether it is a function, and its pieces; `variable` the pieces
 # of the third field, None where there is none.
-Line = collections.namedtuple("Line", "number text sides variable")
+class Line(collections.namedtuple("Line", "number text sides variable")):
+    def is_of_all(self):
+        """Whether it matches any two locations with any variable."""
+        fields = [pieces for _, pieces in self.sides] + [self.variable] * (self.variable is not None)
+        return all(len(pieces) > 1 and not any(pieces) for pieces in fields)
 
 
 class BadLine(Refused):
@@ -187,6 +191,9 @@ def given(path, say):
         more = f" and {len(old) - 1:,} more" if len(old) > 1 else ""
         say(f"{path}, line {old[0].number}{more}: no variable is named, so every variable there is known; a "
             "third field names one")
+    every = [line.number for line in found.lines if line.is_of_all()]
+    if every:
+        say(f"{path}, line {every[0]}: it makes every race known")
     return found
 
 

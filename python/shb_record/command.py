@@ -4,6 +4,7 @@ import argparse
 import contextlib
 import itertools
 import os
+import re
 import shlex
 import shutil
 import signal
@@ -184,7 +185,8 @@ def check_program(name):
     if shutil.which(name):
         return None
     if not os.path.exists(name):
-        say(f"{name}: not found")
+        say(f"{name}: not found" + f"; variables are set by env: shb-record env {name} PROGRAM"
+            * bool(re.match(r"\w+=", name)))
         return NOT_THERE
     if "/" not in name and shutil.which(f"./{name}"):
         say(f"{name}: not on the PATH; ./{name} names the one in this folder")

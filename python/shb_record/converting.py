@@ -288,7 +288,8 @@ class Conversion:
     def end(self, answer):
         said = self.said(answer)
         sizes = [line for line in said if re.match(r"\d+ records, ", line)]
-        self.size = ", ".join(re.sub(r"\d+", lambda number: f"{int(number[0]):,}", line) for line in sizes)
+        one = [re.sub(r"\b1 (\w+)s\b", r"1 \1", line) for line in sizes]
+        self.size = ", ".join(re.sub(r"\d+", lambda number: f"{int(number[0]):,}", line) for line in one)
         self.notes = [line for line in said if line not in sizes]
         self.cuts = [note for note in self.notes if note.startswith(CUTS)] * (answer.status == NOT_WHOLE)
 

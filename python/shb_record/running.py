@@ -9,7 +9,7 @@ import signal
 import time
 
 from shb_common.stops import STOPS
-from shb_common.words import Refused, counted
+from shb_common.words import Refused, counted, printable
 from shb_record.modules import is_behind
 from shb_record.parts import LIBRARY, say
 
@@ -41,12 +41,23 @@ class CannotRun(Refused):
     """The system can't start the program."""
 
 
+def interpreter(program):
+    """What is said of a script whose interpreter isn't there: the system names the script alone."""
+    path = shutil.which(program) or program
+    with contextlib.suppress(OSError), open(path, "rb") as file:
+        first = file.readline(256)
+        name = first[2:].split()[0] if first.startswith(b"#!") and first[2:].split() else b""
+        if name and not os.path.exists(name):
+            return f" (its interpreter {printable(name)})"
+    return ""
+
+
 def started(words, variables, blocked):
     """Starts the program, with its environment and the signals that are blocked in it. Returns its number."""
     try:
         return os.posix_spawnp(words[0], words, variables, setsigmask=blocked, setsigdef=IGNORED)
     except OSError as fault:
-        raise CannotRun(f"{words[0]}: can't be run: {fault.strerror}") from None
+        raise CannotRun(f"{words[0]}: can't be run: {fault.strerror}{interpreter(words[0])}") from None
 
 
 # What became of a run: the program's status in a shell, the last signal to end it, and when the first came.

@@ -191,6 +191,9 @@ def judge_of(made, path):
 
 def open_regular(path):
     """A file that can be read as often as is needed, which - as a name of standard input isn't."""
+    if os.path.isfile(f"{path}/made-by-shb-record.txt"):
+        raise Refused(f"{readable(path)} is a folder of results: index.html in it is their overview, and "
+                      "run*.std are the traces")
     if path == "-" or not stat.S_ISREG(os.stat(path).st_mode):
         raise Refused(f"{readable(path)} isn't a regular file: the trace is read more than "
                       "once, so save it to a file")

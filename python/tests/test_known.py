@@ -61,6 +61,9 @@ class KnownPlaces(side_by_side.Case):
         path.write_bytes(b"a\tb\t*\n")
         known.given(path, said.append)
         self.assertEqual(len(said), 1)
+        path.write_bytes(b"*\ta\t*\n*\t*\t*\n")
+        known.given(path, said.append)
+        self.assertEqual(said[1:], [f"{path}, line 2: it makes every race known"])
 
     def test_lines_that_matched_nothing(self):
         stale = lambda: [line.number for line in self.known.stale()]

@@ -320,11 +320,17 @@ int main(int count, char **words) {
 
     def test_what_cannot_be_run(self):
         (self.folder / "text").write_text("no program")
+        (self.folder / "script").write_text("#!/none/sh -e\n")
+        (self.folder / "script").chmod(0o755)
         for words, wanted, reason in (((self.folder / "none",), 127, "not found"),
                                       ((self.folder / "text",), 126, "can't be run: Permission denied"),
                                       ((), 125, "no program is named"),
                                       (("--runs", "0", "true"), 125, "--runs: it takes a number from 1"),
                                       (("--no",), 125, "unrecognized arguments: --no"),
+                                      (("--run", "3", "true"), 125, "--run (did you mean --runs?)"),
+                                      (("--suppressions=x", "true"), 125, "(did you mean --known?)"),
+                                      (("X=1", "true"), 127, "shb-record env X=1 PROGRAM"),
+                                      ((self.folder / "script",), 126, "(its interpreter /none/sh)"),
                                       (("--known", "none", "true"), 125, "none: No such file or directory")):
             status, _, said = self.record(*words)
             self.assertEqual((status, reason in said), (wanted, True), said)
