@@ -26,7 +26,11 @@ OUTSIDE = {
     "commands and packages of Linux": "callgrind poppler valgrind",
     "a message of Slurm": "Duplicate jobid",
     "options of gcc": "func instrument lubsan param",
-    "settings of CMake, Meson and make": "DCMAKE_CXX_FLAGS DCMAKE_C_FLAGS Db_sanitize LDFLAGS",
+    "settings of CMake, Meson and make":
+        "DCMAKE_CXX_FLAGS DCMAKE_C_FLAGS DCMAKE_CROSSCOMPILING_EMULATOR Db_sanitize LDFLAGS buildtype "
+        "debugoptimized",
+    "programs that run tests, and their options": "copt ctest linkopt meson pytest run_under wrapper",
+    "options of ThreadSanitizer": "exitcode halt_on_error history_size log_path",
     "names of ThreadSanitizer's that the recorder leaves out":
         "__interceptor_* __sanitizer_syscall_pre_* _post_*",
     "others of these, and one that it makes by macros": "__tsan_default_suppressions __tsan_read4_pc",
