@@ -38,6 +38,12 @@ found.sorted = [click("var"), click("var"), click("no")];
 const head = document.querySelector("#group-1 summary");
 found.keys = [press("/", document.body) === field, press("ArrowDown", head).parentElement.id,
   press("End", head).parentElement.id, press("Escape", head) === head];
+field.focus();
+found.away = [press("ArrowDown", field).parentElement.id, press("/", head) === field,
+  press("Escape", field) === field, press("ArrowDown", document.body).parentElement.id];
+const open = () => document.querySelectorAll("#groups .group[open]").length;
+found.printed = [open()];
+for (const when of ["beforeprint", "afterprint"]) dispatchEvent(new Event(when)), found.printed.push(open());
 history.replaceState(null, "", "#group-56");
 dispatchEvent(new HashChangeEvent("hashchange"));
 const row = document.getElementById("group-56");
@@ -137,6 +143,8 @@ class Browser(program.Case):
             self.assertEqual(
                 found["sorted"], [["1,2,3,4,", "true"], ["60,59,58", "mixed"], ["1,2,3,4,", "true"]])
             self.assertEqual(found["keys"], [True, "group-2", "group-60", True])
+            self.assertEqual(found["away"], ["group-1", True, False, "group-1"])
+            self.assertEqual(found["printed"], [0, 60, 0])
             self.assertEqual(found["linked"], [True, 1, "group-56"])
             self.assertIn(found["copied"][0], ("Copied", "Press Ctrl+C"))
             self.assertEqual(found["copied"][1], "data race on v56: g.c:56 and g.c:56")

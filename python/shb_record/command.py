@@ -278,7 +278,8 @@ def status_of(look, rows):
 
 
 def conclude(look, rows, status):
-    unknown = count(row for row in rows if not row.is_known)
+    its = [row for row in rows if not row.is_known]
+    unknown = count(its)
     passed_over, behind = count(rows) - unknown, count(row for row in rows if row.state() == "behind")
     for words in known.words_of_stale(look.stale(), look.places.names):
         say(f"{look.options.known_path}, {words}")
@@ -286,6 +287,7 @@ def conclude(look, rows, status):
         say(f"{printable(second)} read what {printable(first)} wrote, in a known race: a second look skipped "
             "both")
     shown = (counted(unknown, "unknown place" if look.options.known_path else "place") + " with races"
+             + f" ({counted(len(its), 'pair')} of lines; each order counts)" * (len(its) < unknown)
              + (f" ({'' if behind == unknown else f'{behind:,} of them '}behind known races: real if these "
                 "are harmless)" if behind else "")
              + (f", {counted(passed_over, 'known one')} skipped" if passed_over else ""))
@@ -294,7 +296,7 @@ def conclude(look, rows, status):
         + ("; not the whole of the run was seen" if look.is_cut or look.is_killed else "")
         + ("; not all could be looked at" if look.has_failed else "")
         + f"; the program's own status: {look.own}; files in {look.results.folder}")
-    for line in dict.fromkeys([*look.counts(), *look.notes, *look.meaning()]):
+    for line in dict.fromkeys([*look.counts(), *look.verified(), *look.notes, *look.meaning()]):
         say(line)
     if len(look.runs) > 1:
         orders = {tuple(sorted(orders)) for orders in look.runs}
@@ -303,8 +305,9 @@ def conclude(look, rows, status):
         words = ["shb-record", "--replay", str(look.again), look.options.program, *look.options.arguments]
         say(f"the first run with such a place again: {shlex.join(words)}")
     if look.pages:
-        more = f" and {len(look.pages) - 1:,} more" if len(look.pages) > 1 else ""
-        say(f"{'pages' if more else 'page'}: {look.pages[0]}{more}")
+        more = f" and {len(look.pages) - 1:,} more; the bugs of all: " if len(look.pages) > 1 else ""
+        say(f"{'pages' if more else 'page'}: {look.pages[0]}{more}"
+            + f"{look.results.folder}/index.html" * bool(more))
     if status == STALE:
         say(f"status {STALE}: {counted(len(look.stale()), 'line')} of {look.options.known_path} matched no "
             f"race of {'this run' if len(look.runs) == 1 else 'these runs'}; --runs N with a greater N may "

@@ -39,46 +39,49 @@ def verdict(groups):
 
 
 def overview(document):
-    found = bugs(document)
-    by_file = {}
+    found, by_file = bugs(document), {}
     for bug in found:
         by_file.setdefault(bug.file, []).append(bug)
     files = sorted(by_file.items(), key=lambda one: -len(one[1]))
     most, rows, tables = max(map(len, by_file.values())), [], []
     for number, (file, its) in enumerate(files, 1):
-        cells = [f'<a href="#file-{number}">{in_html(file)}</a>', f'<b class="share" style="--part:'
-                 f'{len(its) / most:.2f}">{len(its):,}</b>', f"{sum(bug.places for bug in its):,}",
-                 f"{len(set().union(*(bug.runs for bug in its))):,}"]
-        rows.append("".join(f"<td>{cell}</td>" for cell in cells))
-        tables.append(f'<h2 id="file-{number}">{in_html(file)}</h2>\n{table(its)}')
-    heads = "".join(f'<th scope="col">{head}</th>' for head in HEADS)
-    places = sum(bug.places for bug in found)
-    return (f'<p class="sum">{counted(len(found), "bug")} in {counted(len(files), "file")}: '
-            f'{counted(places, "place")} with races</p>\n<div class="wide"><table class="files"><thead>'
-            f"<tr>{heads}</tr></thead><tbody>\n{joined(rows)}</tbody></table></div>\n" + "\n".join(tables))
+        share = f'<b class="share" style="--part:{len(its) / most:.2f}">{len(its):,}</b>'
+        rows.append([link(f"#file-{number}", file), share, *sums(its)])
+        tables.append(f'<h2 id="file-{number}">{in_html(file)}</h2>\n'
+                      + table("bugs", ("Variable", "Fact and remedy", *HEADS[2:]), map(cells_of, its)))
+    places, lines = sum(bug.places for bug in found), counted(len(document["places"]), "pair")
+    pairs = f" ({lines} of lines; each order counts)" * (len(document["places"]) < places)
+    head = (f'<p class="sum">{counted(len(found), "bug")} in {counted(len(files), "file")}: '
+            f'{counted(places, "place")} with races{pairs}</p>\n')
+    return head + table("files", HEADS, rows) + "\n".join(tables)
 
 
-def table(found):
-    rows = []
-    for bug in found:
-        page, *others = bug.pages.items() or [("", "")]
-        name = f"<code>{in_html(bug.name)}</code>"
-        link = f'<a href="{in_html(page[1])}">{name}</a>' if page[1] else name
-        tags = "".join(f' <span class="tag {state}">{state}</span>' for state in bug.states
-                       if state != "unknown")
-        more = ", ".join(f'<a href="{in_html(way)}">{in_html(process.partition(",")[0])}</a>'
-                         for process, way in others)
-        also = f'<br><span class="faint">also in {more}</span>' if more else ""
-        rows.append(f"<td>{link}{tags}</td><td>{in_html(bug.headline)}<br>"
-                    f'<span class="faint">{in_html(bug.remedy)}</span>{also}</td>'
-                    f"<td>{bug.places:,}</td><td>{len(bug.runs):,}</td>")
-    heads = "".join(f'<th scope="col">{head}</th>' for head in ("Variable", "Fact and remedy", *HEADS[2:]))
-    return (f'<div class="wide"><table class="bugs"><thead><tr>{heads}</tr></thead><tbody>\n{joined(rows)}'
+def link(way, words):
+    return f'<a href="{in_html(way)}">{in_html(words)}</a>'
+
+
+def sums(found):
+    """How many places some bugs have, in how many processes."""
+    return f"{sum(bug.places for bug in found):,}", f"{len(set().union(*(bug.runs for bug in found))):,}"
+
+
+def table(kind, heads, rows):
+    def row(tag, cells):
+        return f"<tr>{''.join(f'<{tag}>{cell}</{tag}>' for cell in cells)}</tr>\n"
+    body = "".join(row("td", cells) for cells in rows)
+    return (f'<div class="wide"><table class="{kind}"><thead>{row("th", heads)}</thead><tbody>\n{body}'
             "</tbody></table></div>")
 
 
-def joined(rows):
-    return "".join(f"<tr>{row}</tr>\n" for row in rows)
+def cells_of(bug):
+    """The cells of a bug's row; links lead to all its pages."""
+    (_, page), *others = bug.pages.items() or [("", "")]
+    name = link(page, bug.name) if page else in_html(bug.name)
+    tags = "".join(f' <span class="tag {state}">{state}</span>' for state in bug.states if state != "unknown")
+    more = ", ".join(link(way, process.partition(",")[0]) for process, way in others)
+    also = f'<br><span class="faint">also in {more}</span>' if more else ""
+    return (f"<code>{name}</code>{tags}", f'{in_html(bug.headline)}<br><span class="faint">'
+            f"{in_html(bug.remedy)}</span>{also}", *sums([bug]))
 
 
 def bugs(document):

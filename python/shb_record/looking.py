@@ -14,7 +14,10 @@ from shb_record.places import Places
 from shb_record.running import PRELOADED, cause
 
 KINDS = {b"r": "read", b"w": "written"}
+TOLD = 10     # of so many runs one with nothing new is said
 MOST_KEPT = 3  # segments that couldn't be looked at
+EVERY = "every race on the page has a schedule"
+OF_ALL = "every race on the pages has a schedule that `shb check` accepts; each page has the command."
 LATE = "the C library comes before the recorder's"     # the end of such a record
 
 
@@ -34,7 +37,7 @@ class Look:
         # did a process follow the list? the list of the first with an unknown place
         self.has_replayed, self.again = False, None
         # by process and trace: the paths of source files; what is to know of pages
-        self.sources, self.notes = {}, {}
+        self.sources, self.notes, self.checked = {}, {}, []
         # known races whose second access reads what the first wrote
         self.modules, self.passed_over = Modules(), {}
         self.is_cut = self.is_killed = self.has_failed = self.is_contradicted = self.has_threads = False
@@ -117,6 +120,12 @@ class Look:
                    "first with a race.")
         yield from self.source.meaning
 
+    def verified(self):
+        """What `shb check` found of the schedules: a line for a page, and one for several if it found all."""
+        if len(self.checked) > 1 and all(EVERY in words for words in self.checked):
+            return [self.checked[0][:self.checked[0].index(EVERY)] + OF_ALL]
+        return self.checked
+
     def counts(self):
         """How much was looked at, where it isn't said of each process."""
         return self.source.counts(self.events, self.passed)
@@ -191,7 +200,9 @@ class Look:
         self.events += looked.events
         if looked.events and self.options.runs > 1:
             self.runs[-1].append(order_of(process.record))
-        if unknown if self.options.live else looked.events:
+        is_told = (unknown or self.options.replay or self.options.runs < TOLD or len(self.runs) == 1
+                   or not len(self.runs) % TOLD)
+        if unknown if self.options.live else looked.events and is_told:
             places = (counted(len(unknown), "new place") if self.options.live
                       else counted(len(looked.places), "place"))
             say(f"{process.name} ({process.command}): {looked.size}; {places} with races")
@@ -240,7 +251,7 @@ class Look:
         from shb_view.command import explain, show_run
         from shb_view.result import document
         from shb_view.view import Asked, RecordedRun
-        from shb_view.words import bad_words
+        from shb_view.words import VERIFIED, bad_words
         run = RecordedRun(
             looked.trace, looked.counts, looked.races, looked.used, looked.called,
             new=variables_at(unknown),
@@ -258,7 +269,9 @@ class Look:
         self.pages.append(page)
         self.found[process.name, looked.trace] = found = document(view)
         self.sources[process.name, looked.trace] = looked.called.sources
-        self.notes.update(dict.fromkeys(note for note in found["notes"] if note not in notes))
+        its = [note for note in found["notes"] if note not in notes]
+        self.checked += [note for note in its if note.startswith(VERIFIED)]
+        self.notes.update(dict.fromkeys(note for note in its if not note.startswith(VERIFIED)))
 
 
 def say_places(found, whose="", what=""):

@@ -181,11 +181,10 @@ def schedules(shb, file, races, room):
 
 
 def judge_of(made, path):
-    """The command that makes a recorded run's schedules again and judges them, in the working folder."""
+    """The command that makes a recorded run's schedules again and judges them, in any folder."""
     if not made.given.words:
         return ""
-    path = os.path.abspath(path) if os.path.relpath(path).startswith("..") else os.path.relpath(path)
-    path = shlex.quote(readable(path))
+    path = shlex.quote(readable(os.path.abspath(path)))
     return f"shb {' '.join(made.given.words)} {path} | shb check {path}"
 
 

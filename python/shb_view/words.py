@@ -17,6 +17,7 @@ MOST_SITES = 20  # lines that are shown of a group
 MOST_LOCKS, MOST_SOME, MOST_PARTNERS, MOST_THREADS = 8, 3, 8, 3
 MOST_VARIABLES = 8  # that are named of a group
 NO_LOCK = "no lock held"
+VERIFIED = "Verified: "
 # Of a trace that was recorded, and of a run.
 COUNTS = ("Counts are those of the trace. The recorder omits repeats: a loop may count as two accesses.",
           'Counts such as "6 of 7" cover the whole run, without repeated accesses.')
@@ -134,7 +135,7 @@ def verified_words(view):
     races = [section.window.schedule for section in view.sections if section.window]
     has = f"{len(races) - races.count(None):,} of {counted(len(races), 'race')} on the page have"
     has = has if None in races else "every race on the page has"
-    return f"Verified: {has} a schedule that `shb check` accepts."
+    return f"{VERIFIED}{has} a schedule that `shb check` accepts."
 
 
 def notes_of(view):

@@ -56,6 +56,13 @@ class AtOnce(recorder.Case):
                      "6 runs gave 2 different", "'run5.N.std'"):
             self.assertIn(said, one)
 
+    def test_of_ten_runs_with_nothing_new_one_is_told(self):
+        """As a sign that the runs go on."""
+        self.program()
+        _, _, said = self.record("--runs", "12", "./app", "0", "race")
+        self.assertEqual(re.findall(r"(?m)^shb-record: run (\d+), process", said), ["1", "10"])
+        self.assertIn("\nshb-record: 12 runs gave ", said)
+
     def test_they_are_made_at_once(self):
         self.program()
         self.assertEqual(self.record("--runs", "3", "--jobs", "3", "sh", "-c",

@@ -183,7 +183,7 @@ int main(int count, char **words) {
                         and {tuple(number.replace(",", "") for number in pair)
                              for pair in numbers} <= set(races), (numbers, races))
         self.assertIn(f"races with {there[1]}\n", said)
-        self.assertIn("shb-record: 2 places with races;", said)
+        self.assertIn("shb-record: 2 places with races (1 pair of lines; each order counts);", said)
         self.assertNotIn("can't judge it", said)
 
     def test_a_thread_whose_name_is_hostile(self):

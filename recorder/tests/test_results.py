@@ -141,7 +141,7 @@ class Results(recorder.Case):
         text, [page] = ((self.folder / "out" / "index.html").read_text(),
                         (self.folder / "out").glob("run*.html"))
         self.assertIn("1 bug in 1 file: 1 place with races", text)
-        self.assertIn(f'<a href="{page.name}#group-1"><code>hits</code></a></td>'
+        self.assertIn(f'<code><a href="{page.name}#group-1">hits</a></code></td>'
                       "<td>app.c:5 writes without a lock<br>", text)
         self.assertIn("prefers-color-scheme: dark", text)   # it has the page's style
 
@@ -158,7 +158,10 @@ class Results(recorder.Case):
                          [f"all: {said}. Remedy: hold one lock at app.c:5 and app.c:6."] * 2)
 
     def test_a_place_of_two_processes_is_in_the_groups_of_both(self):
-        self.assertEqual(self.record("-o", "out", self.build(SHARED))[0], 66)
+        status, said = self.record("-o", "out", self.build(SHARED))
+        words = "\nshb-record: Verified: every race on the pages has a schedule"
+        self.assertEqual((status, said.count(words)), (66, 1), said)
+        self.assertTrue(said.endswith(f" and 1 more; the bugs of all: {self.folder}/out/index.html\n"), said)
         document = json.loads((self.folder / "out" / "places.json").read_text())
         parent, child = sorted(document["groups"], key=lambda group: len(group["pairs"]))
         six, seven = "app.c:6", "app.c:7"

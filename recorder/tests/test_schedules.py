@@ -66,7 +66,7 @@ class Schedules(recorder.Case):
         status, said, document, page, [drawn] = self.record()
         [group] = document["groups"]
         trace, schedule = self.folder / "out" / group["trace"], group["schedule"]
-        command = f"shb places --variables out/{trace.name} | shb check out/{trace.name}"
+        command = f"shb places --variables {trace} | shb check {trace}"
         words = "Verified: every race on the page has a schedule that `shb check` accepts. Check again: "
         self.assertIn(f"shb-record: {words}`{command}`.\n", said)
         self.assertEqual(drawn["again"][-1], ["recompute and check its schedule", command])
