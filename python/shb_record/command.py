@@ -29,6 +29,8 @@ MOST_PASSED, WAIT = 8, 10  # known races that are named; seconds
 RACES, STALE, CUT, FAILED, CANNOT_RUN, NOT_THERE = 66, 67, 124, 125, 126, 127
 # Numbers of the environment that the recorder reads, each with the least.
 SETTINGS = {"SHB_SEED": 0, "SHB_SLICE": 1, "SHB_CELLS": 0, "SHB_RECORDS": 1, "SHB_STALL": 1, "SHB_SEGMENT": 1}
+# What options of ThreadSanitizer's are called here.
+OF_TSAN = {"suppressions": "--known", "halt_on_error": "--until-found", "log_path": "--log"}
 USAGE = "shb-record [OPTION].. [--] PROGRAM [ARGUMENT].."
 ABOUT = f"""\
 Runs and records a program, and explains its data races.
@@ -167,6 +169,9 @@ def check_settings():
             number(least)(os.environ.get(name, "1"))
         except argparse.ArgumentTypeError as fault:
             raise Refused(f"{name}: {fault}, not `{os.environ[name]}`") from None
+    for name in re.findall(r"\w+(?==)", os.environ.get("TSAN_OPTIONS", "")):
+        if name in OF_TSAN:
+            say(f"TSAN_OPTIONS isn't read: what it calls {name} is {OF_TSAN[name]}")
     if os.environ.get("SHB_STACKS", "1") not in ("0", "1"):
         raise Refused(f"SHB_STACKS: it takes 0 or 1, not `{os.environ['SHB_STACKS']}`")
 

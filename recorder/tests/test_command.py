@@ -365,6 +365,11 @@ int main(int count, char **words) {
                              (options, more, said))
         self.assertEqual(self.record("--strip", "/of/another/machine", program, "0")[0], 0)
 
+    def test_options_of_thread_sanitizer(self):
+        status, _, said = self.record("true", TSAN_OPTIONS="verbosity=1:suppressions=halt_on_error.txt")
+        self.assertIn("shb-record: TSAN_OPTIONS isn't read: what it calls suppressions is --known\n", said)
+        self.assertEqual(said.count("TSAN_OPTIONS"), 1)
+
     def test_standard_error_that_is_closed_or_full(self):
         """The status says what was found, and the results are there."""
         for words in ("2>&-", "2>/dev/full", "2>/dev/full >&- <&-"):
