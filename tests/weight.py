@@ -1,23 +1,27 @@
 #!/usr/bin/env python3
-"""Compares the lines of each crate and folder with weight.tsv.
+"""Compares the tokens of each crate and folder with weight.tsv.
 
-Each has exactly the lines that the table says, so that a change which adds lines changes the table too, and
-its commit says what a user gains by them.
+Each has exactly as many as the table says, so that a change which adds some changes the table too, and its
+commit says what a user gains by them. A token is a word or a sign: a line that is broken in two weighs the
+same.
 
     weight.py [--lower]
 
-A row is the name of a crate or folder, a kind of lines, and their number:
+A row is the name of a crate or folder, a kind, and a number:
 
-    code          lines of src/*.rt without clauses, imports, comments and blank lines
-    definitions   lines of specs/*.antt
-    proofs        lines of proofs/*.antt
-    C, Python     lines of the sources in a folder and below, without its tests
+    code          tokens of src/*.rt without clauses, imports and comments
+    definitions   tokens of specs/*.antt without imports and comments
+    proofs        the same of proofs/*.antt
+    C, Python     tokens of the sources in a folder and below, without its tests, comments and help
+    long lines    lines of code and comments over 110 characters, of definitions and proofs over 200; clauses
+                  and imports may have any length
 
---lower writes a lower number wherever there are fewer lines now. A higher one is written by hand. Ends with
-the line 'N passed, N failed'.
+--lower writes a lower number wherever there is less now. A higher one is written by hand. Ends with the line
+'N passed, N failed'.
 """
 
 import argparse
+import collections
 import pathlib
 import re
 import subprocess
@@ -33,11 +37,27 @@ PYTHON = re.compile(r".*\.py|shb-\w+|install")  # commands have no ending
 C = re.compile(r".*\.[chS]")
 CLAUSE = re.compile(r"requires\b|ensures\b|ghost\b")
 IMPORT = re.compile(r"(?:pub )?use\b|ghost use\b")
+TOKEN = re.compile(r"\w+|[^\w\s]")
+# of each language strings, which stay, and comments, which don't
+OF_C = re.compile(r"""("(?:\\.|[^"\\\n])*"|'(?:\\.[^'\n]*|[^'\\\n])')|//[^\n]*|/\*[\s\S]*?\*/""")
+OF_PYTHON = re.compile(r"""("(?!"")(?:\\.|[^"\\\n])*"|'(?:\\.|[^'\\\n])*')|#[^\n]*|"{3}[\s\S]*?"{3}""")
+OF_PROOFS = re.compile(r"()(?:^|\s)--(?:\s[^\n]*)?$", re.M)
+OF_FOLDERS = {"C": OF_C, "Python": OF_PYTHON}
+LONG = "long lines"
+MOST, MOST_OF_PROOFS = 110, 200     # characters of a line
+
+
+def without(comment, text):
+    return comment.sub(lambda found: found[1] or "", text)
+
+
+def tokens(text):
+    return len(TOKEN.findall(text))
 
 
 def code_of(text):
-    """How many lines of a source are code: no clauses, imports, comments and blank lines."""
-    count, braces, is_import = 0, 0, False
+    """The lines of a source that are no clauses, imports and blank lines."""
+    braces, is_import = 0, False
     for line in text.splitlines():
         words = line.strip()
         if braces > 0:
@@ -46,13 +66,21 @@ def code_of(text):
             is_import = not words.endswith(";")
         elif CLAUSE.match(words):
             braces = line.count("{") - line.count("}")
-        elif words and not words.startswith("//"):
-            count += 1
-    return count
+        elif words:
+            yield line
+
+
+def of_crate(kind, text):
+    """How many tokens a file of a crate has, and how many lines that are too long."""
+    if kind == "code":
+        return (sum(map(tokens, code_of(without(OF_C, text)))),
+                sum(len(line) > MOST for line in code_of(text)))
+    lines = [line for line in text.splitlines() if not line.startswith("use ")]
+    return tokens(without(OF_PROOFS, "\n".join(lines))), sum(len(line) > MOST_OF_PROOFS for line in lines)
 
 
 def row_of(path):
-    """The name and kind of the row that a file's lines belong to, or None."""
+    """The name and kind of the row that a file belongs to, or None."""
     if crate := CRATE.fullmatch(path):
         return crate[1], KINDS[crate[2]]
     name = path.rpartition("/")[2]
@@ -63,19 +91,25 @@ def row_of(path):
 
 
 def weights(root):
-    """The number of lines of each row, of the files that git tracks or would."""
+    """The number of each row, of the files that git tracks or would."""
     listing = ["git", "-C", root, "ls-files", "-co", "--exclude-standard"]
-    found = {}
+    found = collections.Counter()
     for path in subprocess.run(listing, capture_output=True, check=True, text=True).stdout.splitlines():
         row = row_of(path)
         if row and (root / path).is_file():
+            name, kind = row
             text = (root / path).read_text(encoding="utf-8")
-            found[row] = found.get(row, 0) + (code_of(text) if row[1] == "code" else len(text.splitlines()))
-    return found
+            if kind in OF_FOLDERS:
+                found[row] += tokens(without(OF_FOLDERS[kind], text))
+            else:
+                number, long = of_crate(kind, text)
+                found[row] += number
+                found[name, LONG] += long
+    return dict(found)
 
 
 def table():
-    """The number of lines that the table has for each row."""
+    """The number that the table has for each row."""
     rows = (line.split("\t") for line in TABLE.read_text(encoding="utf-8").splitlines())
     return {(name, kind): int(number) for name, kind, number in rows}
 
@@ -83,15 +117,16 @@ def table():
 def complaint(row, found, bound):
     """What is wrong with a row, if anything is."""
     name, kind = row
+    what = kind if kind == LONG else f"tokens of {kind}"
     if bound is None:
-        return f"{name} has {found} lines of {kind}, and no row in weight.tsv"
+        return f"{name} has {found} {what}, and no row in weight.tsv"
     if found == bound:
         return None
+    head = f"{name}: {found} {what}, and weight.tsv has {bound}: "
     if found < bound:
-        return (f"{name}: {found} lines of {kind}, and weight.tsv has {bound}: tests/weight.py --lower "
-                "writes the number")
-    return (f"{name}: {found} lines of {kind}, and weight.tsv has {bound}: take {found - bound} away, or "
-            "raise the number, and say in the commit's body what a user gains by the lines")
+        return f"{head}tests/weight.py --lower writes the number"
+    return (f"{head}take {found - bound} away, or raise the number, and say in the commit's body what a user "
+            "gains by them")
 
 
 def lowered(found, bounds):
@@ -102,7 +137,7 @@ def lowered(found, bounds):
 def main():
     parser = argparse.ArgumentParser(description=__doc__.splitlines()[0])
     parser.add_argument("--lower", action="store_true",
-                        help="write lower numbers where there are fewer lines")
+                        help="write lower numbers where there is less")
     options = parser.parse_args()
     found, bounds = weights(ROOT), table()
     if options.lower:
