@@ -37,7 +37,7 @@ def facts_of(trace, stacks, written=None):
         counts, gathered = Counts(*shb.counts_of(shb.read_trace(trace)[0])), gathered_of(report)
         kinds = view.Kinds(gathered, Stacks(beside.name, counts.events))
         shown = types.SimpleNamespace(kinds=kinds, gathered=gathered)
-        made = view.Subject(given, counts, 0, False, counts.events)
+        made = view.Subject(given, counts, counts.events)
         how = asked()._replace(has_windows=False)
         for section in view.make_sections(how, kinds, made, Trace(file, QUIET), gathered.groups())[1]:
             yield result.group_entry(shown, section), [tuple(map(text, pair.locations))

@@ -22,17 +22,17 @@ from shb_common import standard
 from shb_view import command, counting, groups, names, trace, view
 
 FORK_JOIN = """\
-fork-join.std: 1 race at 1 place, in 1 group (7 events, 2 threads, 0 locks, 2 variables)
+fork-join.std: 1 place with races, in 1 group (7 events, 2 threads, 0 locks, 2 variables)
 
-1. count: start.c:6 and worker.c:3 write without a lock (1 race, 1 place)
+1. count: start.c:6 and worker.c:3 write without a lock (1 place)
    In this trace no lock is held at any access; 2 threads write, at start.c:6 and worker.c:3.
    Remedy: make it atomic if it is a flag or a counter; else hold one lock at start.c:6 and worker.c:3.
    start.c:6: 1 write by main
      no lock held
-     races with worker.c:3 (1 race)
+     races with worker.c:3
    worker.c:3: 1 write by worker
      no lock held
-     races with start.c:6 (1 race)
+     races with start.c:6
    start.c:8: 1 read by main
      no lock held
 """
@@ -47,74 +47,76 @@ FORK_JOIN_ALL = FORK_JOIN + """
        no lock held
      In this trace no lock is held at any access; 2 threads write, at start.c:6 and worker.c:3.
      Remedy: make it atomic if it is a flag or a counter; else hold one lock at start.c:6 and worker.c:3.
-     `shb places` has a schedule of it, race 1: after its 3 events both accesses can execute next.
+     `shb check` found the schedule of race 1 good: after its 3 events both accesses can execute next.
    Before the accesses:
      1  main    w(config)     start.c:4
      2  main    fork(worker)  start.c:5
      3  worker  r(config)     worker.c:2
+
+Each race that is shown has a schedule: `JUDGE` finds them good.
 """
 
 # Three pairs of lines with a place in each order: two of them share the variable `total`.
 UNLOCKED_READ = """\
-unlocked-read.std: 3 races at 3 places, in 2 groups (18 events, 3 threads, 1 lock, 3 variables)
+unlocked-read.std: 3 places with races, in 2 groups (18 events, 3 threads, 1 lock, 3 variables)
 
-1. items: main.c:11 reads without lock (1 race, 1 place)
+1. items: main.c:11 reads without lock (1 place)
    In this trace every access at queue.c:22 and queue.c:31 holds lock, and main.c:11 reads without it.
    Remedy: hold lock at main.c:11.
    main.c:11 read what queue.c:22 wrote. This racy read may hide other races: fix it and run again.
    queue.c:22: 1 write by producer
      holds lock
-     races with main.c:11 (1 race)
+     races with main.c:11
    main.c:11: 1 read by main
      no lock held
-     races with queue.c:22 (1 race)
+     races with queue.c:22
    main.c:8: 1 write by main
      no lock held
    queue.c:31: 1 read by consumer
      holds lock
 
-2. closed: main.c:12 writes, queue.c:29 reads without a lock (2 races, 2 places)
+2. closed: main.c:12 writes, queue.c:29 reads without a lock (2 places)
    In this trace no lock is held at any access; one thread writes, at main.c:12.
    Remedy: make it atomic if it is a flag or a counter; else hold one lock at main.c:12 and queue.c:29.
    queue.c:29 read what main.c:12 wrote. This racy read may hide other races: fix it and run again.
    main.c:12: 1 write by main
      no lock held
-     races with queue.c:29 (2 races)
+     races with queue.c:29
    queue.c:29: 3 reads by consumer
      no lock held
-     races with main.c:12 (2 races)
+     races with main.c:12
 """
 
 ACCOUNT = """\
-account.std: 1 race at 1 place, in 1 group (12 events, 2 threads, 1 lock, 1 variable)
+account.std: 1 place with races, in 1 group (12 events, 2 threads, 1 lock, 1 variable)
 
-1. balance: account.c:8 reads without door (1 race, 1 place)
+1. balance: account.c:8 reads without door (1 place)
    In this trace every write holds door, and account.c:8 reads without it.
    Remedy: hold door at account.c:8.
    account.c:8 read what account.c:10 wrote. This racy read may hide other races: fix it and run again.
    account.c:10: 2 reads and 2 writes by T1.pay and main
      holds door
-     races with account.c:8 (1 race)
+     races with account.c:8
    account.c:8: 2 reads by T1.pay and main
      no lock held
-     races with account.c:10 (1 race)
+     races with account.c:10
 """
 
 # A place in each order of its two locations is one place; the counts are those of `races`.
 PLACES = """\
-places.std: 6 races at 3 places, in 1 group (4 events, 4 threads, 0 locks, 1 variable)
+places.std: 3 places with races, in 1 group (4 events, 4 threads, 0 locks, 1 variable)
 
-1. total: Counter.java:12 writes, Report.java:30 reads without a lock (6 races, 3 places)
+1. total: Counter.java:12 writes, Report.java:30 reads without a lock (3 places)
    In this trace no lock is held at any access; 3 threads write, at Counter.java:12.
    Remedy: make it atomic if it is a flag or a counter; else hold one lock at Counter.java:12 and \
 Report.java:30.
    Report.java:30 read what Counter.java:12 wrote. This racy read may hide other races: fix it and run again.
    Counter.java:12: 3 writes by T1, T2 and T4
      no lock held
-     races with Counter.java:12 (3 races) and Report.java:30 (3 races)
+     races with Counter.java:12 and Report.java:30
    Report.java:30: 1 read by T3
      no lock held
-     races with Counter.java:12 (3 races)
+     races with Counter.java:12
 """
 
 
@@ -124,19 +126,21 @@ class Text(program.Case):
                                     ("unlocked-read",
                                      UNLOCKED_READ, []), ("account", ACCOUNT, []), ("places", PLACES, [])):
             with self.subTest(name):
-                self.expect(run([*options, EXAMPLES / f"{name}.std"]), 0, said.encode())
+                trace = f"examples/{name}.std"
+                said = said.replace("JUDGE", f"shb places --variables {trace} | shb check {trace}")
+                self.expect(run([*options, trace], cwd=EXAMPLES.parent), 0, said.encode())
 
     def test_no_races(self):
         self.expect(run([EXAMPLES / "hidden-by-lock.std"]), 0,
-                    b"hidden-by-lock.std: 0 races (6 events, 2 threads, 1 lock, 1 variable)\n"
+                    b"hidden-by-lock.std: 0 places with races (6 events, 2 threads, 1 lock, 1 variable)\n"
                     b"Any two conflicting accesses are ordered in this trace. A run with another "
                     b"interleaving may have races.\n")
 
     def test_no_events(self):
         with tempfile.NamedTemporaryFile(suffix=".std") as empty:
             name = pathlib.Path(empty.name).name
-            self.expect(run([empty.name]), 0, f"{name}: 0 races (0 events, 0 threads, 0 locks, 0 "
-                                              "variables)\nThe trace has no events.\n".encode())
+            self.expect(run([empty.name]), 0, f"{name}: 0 places with races (0 events, 0 threads, "
+                                              "0 locks, 0 variables)\nThe trace has no events.\n".encode())
 
     def test_colours_on_a_terminal_alone(self):
         words = [EXAMPLES / "fork-join.std"]
@@ -211,7 +215,7 @@ class Facts(program.Case):
         self.assertEqual(self.said(*lines), ["In this trace f.c:2 holds l and f.c:10 holds m, and no lock is "
                                              "common to them."])
         out = run_here([self.file(trace_of(*lines))])[1]
-        self.assertIn("\n1. x: f.c:2 and f.c:10 hold different locks (1 race, 1 place)\n", out)
+        self.assertIn("\n1. x: f.c:2 and f.c:10 hold different locks (1 place)\n", out)
         self.assertNotIn("n't hold", out)
 
     def test_a_write_under_a_read_lock(self):
@@ -240,7 +244,7 @@ class Facts(program.Case):
         self.assertEqual(self.said(*lines), ["In this trace f.c:1 and f.c:2 write atomically, and f.c:3 is "
                                              "not atomic."])
         out = run_here(["--all", self.file(trace_of(*lines))])[1]
-        self.assertIn("\n1. n: f.c:3 is not atomic (2 races, 2 places)\n", out)
+        self.assertIn("\n1. n: f.c:3 is not atomic (2 places)\n", out)
         self.assertNotIn("2. ", out)
         for line in ("   f.c:1: 1 atomic write by A\n     no lock held\n", "   f.c:3: 1 read by C\n",
                      "     atomic write by B at f.c:2 (event 7)\n",
@@ -311,10 +315,10 @@ class Sites(program.Case):
                           "B r x 7", "C acq n2 8", "C r x 9")
         self.assertEqual(said[5:15], [
             "   f.c:2: 1 write by A", "     holds l; holds m",
-            "     races with f.c:4 (1 race) and f.c:9 (1 race)",
+            "     races with f.c:4 and f.c:9",
             "   f.c:4: 2 reads by B", "     holds l at 1 of 2; no lock held at 1 of 2",
-            "     races with f.c:2 (1 race)",
-            "   f.c:9: 1 read by C", "     holds n2", "     races with f.c:2 (1 race)",
+            "     races with f.c:2",
+            "   f.c:9: 1 read by C", "     holds n2", "     races with f.c:2",
             "   f.c:7: 1 read by B"])
         self.assertEqual(said[15:], ["     holds l; holds n"])
 
@@ -363,7 +367,7 @@ class Sites(program.Case):
 
     def test_eight_partners_are_named(self):
         said = self.lines("A w x 10", *(f"R{line} r x {line}" for line in range(11, 20)))
-        named = ", ".join(f"f.c:{line} (1 race)" for line in range(11, 19))
+        named = ", ".join(f"f.c:{line}" for line in range(11, 19))
         self.assertIn(f"     races with {named} and 1 more", said)
 
     def test_three_threads_are_named(self):
@@ -385,8 +389,8 @@ class Sites(program.Case):
         self.assertEqual(said[3:], [
             "   In this trace the locks held at 2 accesses aren't counted.",
             "   f.c:1: 2 writes by A", "     no lock held",
-            "     races with f.c:2 (2 races) and f.c:3 (2 races)",
-            "   f.c:2: 1 write by B", "     no lock held", "     races with f.c:1 (2 races)",
+            "     races with f.c:2 and f.c:3",
+            "   f.c:2: 1 write by B", "     no lock held", "     races with f.c:1",
             "   (further lines): 2 reads", "     locks not counted at 2 of 2"])
 
     def test_counts_and_locks_of_made_traces(self):
@@ -441,8 +445,7 @@ class Groups(program.Case):
     def test_lines_that_race_on_two_variables_are_one_group(self):
         text = trace_of("A w x 1", "A w y 1", "B w x 2", "B w y 2")
         [section] = sections(text, shb.report(text, True))
-        self.assertEqual(([pair.races for pair in section.group.pairs],
-                          section.group.variables), ([2], (b"x", b"y")))
+        self.assertEqual((len(section.group.pairs), section.group.variables), (1, (b"x", b"y")))
 
     def test_fields_of_one_block_that_lack_one_order_are_one_group(self):
         """Blocks 1 and 2, and two objects with a name. Another lock, or other threads, are another thing
@@ -474,7 +477,8 @@ class Groups(program.Case):
         text = trace_of("A w x 1", "B w x 2", "A w x 1")
         [section] = sections(text, shb.report(text, True))
         self.assertEqual(
-            [(pair.locations, pair.races) for pair in section.group.pairs], [((b"f.c:1", b"f.c:2"), 2)])
+            [(pair.locations, pair.places) for pair in section.group.pairs],
+            [((b"f.c:1", b"f.c:2"), ((b"f.c:1", b"f.c:2"), (b"f.c:2", b"f.c:1")))])
 
     def test_the_closest_race_is_shown(self):
         text = trace_of("A w x 1", "B r y 9", "B w x 2", "B r y 9", "C w x 1")
@@ -502,21 +506,14 @@ class Groups(program.Case):
             self.assertEqual(groups.common_name(variables), name)
 
     def test_all_variables_whatever_the_number_of_races(self):
-        """With n accesses to each variable by each thread there are 2n² races: 80,000 are looked at one by
-        one; of 105,800 one of each variable is, and how many are of each isn't counted."""
-        for many, counts, note in ((200, {"races": 40_000}, ""), (230, {}, "The trace has too many races to "
-                                   "look at each. Call stacks are those of one race of each variable at each "
-                                   "place.\n")):
-            events = [f"{thread} w {variable} {line}" for thread, line in (("A", 1), ("B", 2))
-                      for _ in range(many) for variable in "xy"]
-            out = run_here([self.file(trace_of(*events))])[1]
-            self.assertIn(f"\n\n1. x and y: f.c:1 and f.c:2 write without a lock ({2 * many * many:,} races, "
-                          "1 place)\n", out)
-            self.assertTrue(out.endswith(f"races)\n\n{note}" if note else "races)\n"), out)
-            found = self.folder / "found.json"
-            self.assertEqual(run_here(["--json", found, self.file(trace_of(*events))])[0], 0)
-            [place] = json.loads(found.read_text())["places"]
-            self.assertEqual(place["variables"], [{"name": name, **counts} for name in "xy"])
+        """With n accesses to each variable by each thread there are 2n² races."""
+        events = [f"{thread} w {variable} {line}" for thread, line in (("A", 1), ("B", 2))
+                  for _ in range(230) for variable in "xy"]
+        found = self.folder / "found.json"
+        out = run_here(["--text", "--json", found, self.file(trace_of(*events))])[1]
+        self.assertIn("\n\n1. x and y: f.c:1 and f.c:2 write without a lock (1 place)\n", out)
+        [place] = json.loads(found.read_text())["places"]
+        self.assertEqual(place["variables"], [{"name": name} for name in "xy"])
 
     def test_places_are_counted_as_the_program_does(self):
         """Two locations that race in both orders are two."""
@@ -528,7 +525,7 @@ class Groups(program.Case):
             document = json.loads(found.read_text())
             self.assertEqual((document["summary"]["places"],
                               sum(place["places"] for place in document["places"])), (count, count))
-            self.assertRegex(out, rf"races? at {count} places?, in ")
+            self.assertRegex(out, rf": {count} places? with races, in ")
 
     def test_the_variable_of_nearly_all_races_is_named(self):
         """The list begins with the others, which the first race of each place has."""
@@ -538,18 +535,18 @@ class Groups(program.Case):
         self.assertIn("   Variables: first and served\n", out)
 
     def test_two_hundred_groups_are_shown_whole(self):
-        more = "201. x200: f.c:400 and f.c:401 write without a lock (1 race, 1 place)\n" \
-               "202. x201: f.c:402 and f.c:403 write without a lock (1 race, 1 place)\n"
+        more = "201. x200: f.c:400 and f.c:401 write without a lock (1 place)\n" \
+               "202. x201: f.c:402 and f.c:403 write without a lock (1 place)\n"
         for many, more in ((200, ""), (202, more)):
             events = [f"{thread} w x{k} {2 * k + (thread == 'B')}" for k in range(many) for thread in "AB"]
             out = run_here([self.file(trace_of(*events))])[1]
             self.assertEqual(len(re.findall(r"^\d+\. ", out, re.M)), many)
-            self.assertTrue(out.startswith(f"t.std: {many} races at {many} places, in {many} groups "))
-            self.assertEqual(out.split("races with f.c:399 (1 race)\n")[-1][-len(more or "\n"):] if more
+            self.assertTrue(out.startswith(f"t.std: {many} places with races, in {many} groups "))
+            self.assertEqual(out.split("races with f.c:399\n")[-1][-len(more or "\n"):] if more
                              else "", more)
         with unittest.mock.patch.object(view, "MOST_GROUPS", 201):
             self.assertTrue(run_here([self.file(trace_of(*events))])[1].endswith(
-                "lock (1 race, 1 place)\n\nand 1 more group\n"))
+                "lock (1 place)\n\nand 1 more group\n"))
 
 
 class Issues(program.Case):
@@ -769,8 +766,7 @@ class Waiting(program.Case):
         self.assertEqual(said.out.getvalue(), "\r\x1b[Kshb-view: reading 25%\r\x1b[K")
 
     def test_words_go_away_before_a_refusal(self):
-        fake = self.file(b'#!/bin/sh\nif [ $1 = places ]; then %b "$@" | sed "\$d"; else exec %b "$@"; fi\n'
-                         % ((bytes(program.PATH),) * 2), "shb")
+        fake = self.file(b'#!/bin/sh\n%b "$@" | sed "s/^events 4/events 5/"\n' % bytes(program.PATH), "shb")
         fake.chmod(0o755)
         wait, standard.WAIT = standard.WAIT, 0.0
         self.addCleanup(setattr, standard, "WAIT", wait)
@@ -778,9 +774,8 @@ class Waiting(program.Case):
         with contextlib.redirect_stderr(terminal):
             status = command.main(["--shb", str(fake), str(EXAMPLES / "places.std")])
         self.assertEqual(status, 2)
-        self.assertRegex(terminal.getvalue(), r"\A\r\x1b\[Kshb-view: reading the report "
-                                              r"\d+%.*\r\x1b\[Kshb-view: line 26 of the report is "
-                                              r"missing; it should be `end`\n\Z")
+        self.assertRegex(terminal.getvalue(), r"\A\r\x1b\[Kshb-view: counting accesses \d+%.*\r\x1b\[K"
+                                              r"shb-view: the trace isn't the one that `shb` read.*\n\Z")
 
     def test_words_go_away_before_the_text(self):
         wait, standard.WAIT = standard.WAIT, 0.0
@@ -789,7 +784,7 @@ class Waiting(program.Case):
         with contextlib.redirect_stderr(terminal), contextlib.redirect_stdout(out):
             words = "--shb", str(program.PATH), str(EXAMPLES / "places.std")
             self.assertEqual(command.main(words), 0)
-        self.assertRegex(terminal.getvalue(), r"\A\r\x1b\[Kshb-view: reading the report \d+%.*\r\x1b\[K\Z")
+        self.assertRegex(terminal.getvalue(), r"\A\r\x1b\[Kshb-view: counting accesses \d+%.*\r\x1b\[K\Z")
 
     def test_nothing_is_said_in_the_first_second(self):
         self.addCleanup(setattr, standard, "time", standard.time)

@@ -37,31 +37,15 @@ class Fake(program.Case):
 class Running(Fake):
     """How the program is run."""
 
-    def test_the_list_is_left_after_its_places(self):
-        """Its further lines are never read: here they have no end."""
-        script = """if [ $2 = --list ] && [ $1 = races ]; then
-printf 'shb-report 2\\nevents 7 threads 2 locks 0 variables 2\\nraces 900000000\\nplaces 1\\n'
-printf 'place 1: 900000000\\nat worker.c:3\\nand start.c:6\\n'; exec yes 'race 1: 4 5'; fi
-exec REAL "$@"
-"""
-        status, out, err = run_here(["--shb", self.fake(script), TRACE])
-        self.assertEqual((status, err), (0, ""))
-        self.assertEqual(out.splitlines()[0],
-                         "fork-join.std: 900,000,000 races at 1 place, in 1 group (7 events, 2 threads, 0 "
-                         "locks, 2 variables)")
-        self.assertIn("\n1. count: start.c:6 and worker.c:3 write without a lock (900,000,000 races, 1 "
-                      "place)\n", out)
-        self.assertIn("     races with worker.c:3 (900,000,000 races)", out)
-
     def test_no_schedules_where_they_would_be_long(self):
-        """A thousand places and 20,000 events: 140 MB. The program is asked for no schedule."""
-        events = "".join(f"A|w(x{k})|a:{k}\nB|w(x{k})|b:{k}\n" for k in range(1000)) + "A|r(y)|c:1\n" * 18000
+        """A thousand places after 18,000 events: 133 MB. The program is asked for no schedule."""
+        events = "A|r(y)|c:1\n" * 18000 + "".join(f"A|w(x{k})|a:{k}\nB|w(x{k})|b:{k}\n" for k in range(1000))
         log = self.folder / "log"
         script = f'echo "$1 $2" >> {log}; exec REAL "$@"\n'
         trace = self.file(events.encode())
         status, out, err = run_here(["--all", "--shb", self.fake(script), trace])
         self.assertEqual((status, err), (0, ""))
-        self.assertEqual(log.read_text().splitlines(), ["races --list", "places --list"])
+        self.assertEqual(log.read_text().splitlines(), ["places --list"])
         self.assertEqual(out.splitlines()[-1], "No schedules were made, since they would take over 100 MB.")
         self.assertIn("No schedule of this race is at hand: events are shown in the order of the trace.", out)
         self.assertNotIn("come next", out)
@@ -70,24 +54,25 @@ exec REAL "$@"
         log = self.folder / "log"
         script = f'echo "$*" >> {log}; exec REAL "$@"\n'
         self.assertEqual(run_here(["--shb", self.fake(script), TRACE])[0], 0)
-        self.assertEqual(log.read_text().splitlines(), ["races --list", "places"])
+        self.assertEqual(log.read_text().splitlines(), ["places --list --variables"])
 
     def test_a_trace_without_races_is_analysed_once(self):
         log = self.folder / "calls"
         fake = self.fake(f'echo "$1" >> {log}; exec REAL "$@"\n')
         status, out, _ = run_here(["--shb", fake, self.file(b"A|w(x)|a.c:1\nA|w(x)|a.c:2\n")])
-        self.assertEqual((status, log.read_text()), (0, "races\n"))
-        self.assertIn("0 races", out)
+        self.assertEqual((status, log.read_text()), (0, "places\n"))
+        self.assertIn("0 places", out)
 
     def test_text_and_page_of_one_run(self):
-        """As each alone, and `shb` runs as often as for one."""
+        """As each alone, and `shb` runs as often as for the page."""
         log, page = self.folder / "log", self.folder / "page.html"
         fake = self.fake(f'echo "$1" >> {log}; exec REAL "$@"\n')
         whole = run_here([TRACE])[1]
         self.assertEqual(run_here(["--html", page, TRACE]), (0, "", ""))
         alone = page.read_bytes()
-        self.assertEqual(run_here(["--text", "--html", page, "--shb", fake, TRACE]), (0, whole, ""))
-        self.assertEqual((page.read_bytes(), log.read_text().split()), (alone, ["races", "places"]))
+        status, out, err = run_here(["--text", "--html", page, "--shb", fake, TRACE])
+        self.assertEqual((status, out.startswith(whole), err), (0, True, ""))
+        self.assertEqual((page.read_bytes(), log.read_text().split()), (alone, ["places", "places", "check"]))
 
     def test_groups_with_places_that_are_asked_for(self):
         """The page has all groups."""
@@ -117,8 +102,7 @@ exec REAL "$@"
                           for access in place["accesses"]],
                          [("start.c:6", {"write": 1}, {"main": 1}),
                           ("worker.c:3", {"write": 1}, {"worker": 1})])
-        self.assertEqual((place["places"], place["races"],
-                          place["variables"]), (1, 1, [{"name": "count", "races": 1}]))
+        self.assertEqual((place["places"], place["variables"]), (1, [{"name": "count"}]))
 
     def test_a_fault_of_the_view_itself(self):
         with mock.patch("shb_view.command.make_view", lambda *_: None):
@@ -136,7 +120,7 @@ exec REAL "$@"
             file.write(TRACE.read_bytes())
         answer = run([trace])
         self.assertEqual((answer.status, answer.err), (0, b""))
-        self.assertTrue(answer.out.startswith(b"\\xff.std: 1 race "))
+        self.assertTrue(answer.out.startswith(b"\\xff.std: 1 place "))
 
     def test_a_name_like_an_option(self):
         trace = self.file(TRACE.read_bytes(), "-t.std")
@@ -144,7 +128,7 @@ exec REAL "$@"
                                 env=settings(),
                                 capture_output=True, timeout=program.SECONDS)
         self.assertEqual((answer.returncode, answer.stderr), (0, b""))
-        self.assertTrue(answer.stdout.startswith(b"-t.std: 1 race "))
+        self.assertTrue(answer.stdout.startswith(b"-t.std: 1 place "))
 
     def test_a_refused_trace(self):
         """The line is shown, and what is likely to be wrong with it; python/tests/test_refused.py
@@ -178,23 +162,20 @@ exec REAL "$@"
 
     def test_a_killed_program(self):
         self.assertEqual(self.said(["--shb", self.fake("kill -9 $$\n"), TRACE]),
-                         "`shb races --list` was ended by signal 9")
-        script = "[ $1 = places ] && kill -9 $$; exec REAL \"$@\"\n"
-        self.assertEqual(self.said(["--shb", self.fake(script), TRACE]), "`shb places` was ended by signal 9")
+                         "`shb places --list --variables` was ended by signal 9")
 
     def test_a_program_that_fails(self):
-        script = "[ $1 = places ] && { echo 'out of memory' >&2; exit 4; }; exec REAL \"$@\"\n"
-        self.assertEqual(self.said(["--shb", self.fake(script), TRACE]),
-                         "`shb places` ended with status 4: out of memory")
+        self.assertEqual(self.said(["--shb", self.fake("echo 'out of memory' >&2; exit 4\n"), TRACE]),
+                         "`shb places --list --variables` ended with status 4: out of memory")
         self.assertEqual(self.said(["--shb", self.fake("exit 4\n"), TRACE]),
-                         "`shb races --list` ended with status 4")
+                         "`shb places --list --variables` ended with status 4")
         self.assertEqual(self.said(["--shb", self.fake("printf 'a\\033[31m\\nb' >&2; exit 4\n"), TRACE]),
-                         "`shb races --list` ended with status 4: a\\x1b[31m\\x0ab")
+                         "`shb places --list --variables` ended with status 4: a\\x1b[31m\\x0ab")
         self.assertEqual(
             self.said(["--shb", self.fake("head -c 5000 /dev/zero | tr '\\0' x >&2; exit 4\n"), TRACE]),
-                         f"`shb races --list` ended with status 4: {'x' * 99}…{'x' * 100}")
+                         f"`shb places --list --variables` ended with status 4: {'x' * 99}…{'x' * 100}")
         self.assertEqual(self.said(["--shb", self.fake("echo hello\n"), TRACE]),
-                         "`shb races --list` wrote no report: line 1 of the report is `hello`; it should be "
+                         "line 1 of the report is `hello`; it should be "
                          "`shb-report 2`")
 
     def test_no_such_program(self):
@@ -222,7 +203,7 @@ exec REAL "$@"
             for path in (command, link):
                 answer = run([TRACE], env=environment, command=path)
                 self.assertEqual((answer.status, answer.err), (0, b""))
-                self.assertIn(b"fork-join.std: 1 race ", answer.out)
+                self.assertIn(b"fork-join.std: 1 place ", answer.out)
 
 
 class Files(Fake):

@@ -93,8 +93,8 @@ class Pages(program.Case):
     def test_a_row_for_each_group(self):
         page = self.page(self.example("unlocked-read"))
         self.assertEqual([text for _, text in page.all("summary")],
-                         ["1 items main.c:11 reads without lock main.c:11 1 race",
-                          "2 closed main.c:12 writes, queue.c:29 reads without a lock main.c:12 2 races"])
+                         ["1 items main.c:11 reads without lock main.c:11 1 place",
+                          "2 closed main.c:12 writes, queue.c:29 reads without a lock main.c:12 2 places"])
         self.assertEqual([(attributes["id"], attributes["class"]) for attributes, _ in page.all("details")],
                          [("group-1", "group rank1"), ("group-2", "group rank3")])
 
@@ -103,9 +103,9 @@ class Pages(program.Case):
         self.assertEqual(group["sites"], [
             [[["account.c:10"]], "", "2 reads and 2 writes", [["T1.pay"], " and ", ["main"]],
              [["held", ["holds ", ["door"], ""]]],
-             [["account.c:8"], " (1 race)"], True],
+             [["account.c:8"]], True],
             [[["account.c:8"]], "", "2 reads", [["T1.pay"], " and ", ["main"]], [["none", ["no lock held"]]],
-             [["account.c:10"], " (1 race)"], True]])
+             [["account.c:10"]], True]])
         self.assertIn(["Remedy: ", "hold ", ["door"], " at ", ["account.c:8"], "."], group["about"])
 
     def test_the_text_of_a_group(self):
@@ -134,7 +134,7 @@ class Pages(program.Case):
 
     def test_commands_that_run_it_again(self):
         page = self.page(self.example("account"), turns="out/a b.turns", command="./account 7")
-        self.assertEqual(page.data()["groups"][0]["again"], [
+        self.assertEqual(page.data()["groups"][0]["again"][:-1], [
             ["with the same thread switches", "shb-record --replay 'out/a b.turns' ./account 7"],
             ["in a debugger that stops at the two lines", "shb-record --replay 'out/a b.turns' gdb "
              "-ex 'break account.c:10' -ex 'break account.c:8' -ex run --args ./account 7"]])
@@ -212,12 +212,13 @@ class Pages(program.Case):
         self.assertEqual(run_here(["--html", path, self.file(b"A|w(x)\nB|w(x)\n", "<b>&\"\x1b.std")])[0], 0)
         page = Page(path.read_text(encoding="utf-8"))
         self.assertEqual((page.all("h1"), page.all("b")), ([({}, "<b>&\"\\x1b.std")], []))
-        self.assertEqual(page.all("title")[0][1], "<b>&\"\\x1b.std: 1 race at 1 place, in 1 group")
+        self.assertEqual(page.all("title")[0][1], "<b>&\"\\x1b.std: 1 place with races, in 1 group")
 
     def test_what_is_said_of_schedules_and_verdicts(self):
         own = self.page(self.example("places"))
-        self.assertEqual(own.all("p", "verdict"), [])
-        self.assertIn("`shb places` has a schedule of it, race 1: after its 0 events both accesses can "
+        self.assertIn("Each race that is shown has a schedule: shb places --variables ",
+                      own.all("p", "verdict")[0][1])
+        self.assertIn("`shb check` found the schedule of race 1 good: after its 0 events both accesses can "
                       "execute next.",
                       "".join(text for _, text in own.all("details")))
         good, said = self.of_run(program.PATH)
@@ -278,7 +279,7 @@ class Pages(program.Case):
     def test_commands_in_sentences_are_code(self):
         """They are between backticks in the text for an issue and in the data alone."""
         page = self.page(self.example("places"))
-        self.assertIn("`shb places`", page.data()["groups"][0]["note"])
+        self.assertIn("`shb check`", page.data()["groups"][0]["note"])
         self.assertEqual([text for _, text in page.all("p") if "`" in text], [])
 
     def test_a_bad_verdict_comes_first_and_is_red(self):
@@ -307,7 +308,7 @@ class Pages(program.Case):
     def test_no_races(self):
         page = self.page(self.example("hidden-by-lock"))
         self.assertEqual((page.all("section"), page.all("table")), ([], []))
-        self.assertEqual([text for _, text in page.all("p", "sum")], ["0 races"])
+        self.assertEqual([text for _, text in page.all("p", "sum")], ["0 places with races"])
 
 
 class Pictures(program.Case):

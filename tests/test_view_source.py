@@ -195,13 +195,13 @@ class Shown(program.Case):
 
     def test_text_by_hand(self):
         self.assertEqual(self.shown().splitlines()[1:], [
-            "", "1. total: a.c:3 reads without door (1 race, 1 place)",
+            "", "1. total: a.c:3 reads without door (1 place)",
             "   In this trace every write holds door, and a.c:3 reads without it.",
             "   Remedy: hold door at a.c:3.",
             "   a.c:3 read what a.c:8 wrote. This racy read may hide other races: fix it and run again.",
-            "   a.c:8: 1 write by A", "     | total++;", "     holds door", "     races with a.c:3 (1 race)",
+            "   a.c:8: 1 write by A", "     | total++;", "     holds door", "     races with a.c:3",
             "   a.c:3: 1 read by B", "     | static int total;", "     no lock held",
-            "     races with a.c:8 (1 race)"])
+            "     races with a.c:8"])
 
     def test_page_by_hand(self):
         path = self.folder / "page.html"

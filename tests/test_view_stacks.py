@@ -132,7 +132,7 @@ class Stacks(program.Case):
                            b"4 2\n")
         _, out, err = self.shown(stacks([1, 12, 11, 11, 7], tables=tables))
         self.assertEqual(err, "")
-        self.assertIn("     races with a.c:5 (2 races) and a.c:7 (1 race)\n     in add<>\n       from run "
+        self.assertIn("     races with a.c:5 and a.c:7\n     in add<>\n       from run "
                       "a.c:20\n   a.c:7: ", out)
 
     def test_the_page(self):
@@ -286,7 +286,7 @@ class Stacks(program.Case):
                  b"main|w(a.c:9#2)|a.c:7\nmain|w(a.c:9#2+8)|a.c:7\n")
         _, out, err = self.shown(stacks(tables=TABLES + b"free 4 5\n"), "--all", trace=trace)
         self.assertEqual(err, "")
-        self.assertIn("1. a.c:9#2 (2 variables): freed at a.c:7 while in use (2 races, 2 places)\n   In this "
+        self.assertIn("1. a.c:9#2 (2 variables): freed at a.c:7 while in use (2 places)\n   In this "
                       "trace main frees the block at a.c:7, and nothing orders the free and the use at a.c:5 "
                       "and a.c:6.\n", out)
         self.assertIn("   a.c:7: 1 free by main\n", out)
@@ -296,7 +296,7 @@ class Stacks(program.Case):
         """Two threads free one block at one line."""
         trace = b"main|fork(T1)|a.c:1\nT1|w(a.c:9#2)|a.c:7\nmain|w(a.c:9#2)|a.c:7\n"
         _, out, _ = self.shown(stacks(tables=TABLES + b"free 2 2\nfree 3 3\n"), trace=trace)
-        self.assertIn("1. a.c:9#2: freed twice at a.c:7 (1 race, 1 place)\n   In this trace T1 and main free "
+        self.assertIn("1. a.c:9#2: freed twice at a.c:7 (1 place)\n   In this trace T1 and main free "
                       "the block at a.c:7, and nothing orders the free and another free of it.\n", out)
 
     def test_a_use_after_a_free(self):
@@ -354,7 +354,7 @@ class Stacks(program.Case):
                 self.assertEqual("hand this on" in out, words is not None)
                 self.assertIn(says.format(*words) if words else "   In this trace no lock is held", out)
                 self.assertIn(f"1. a.c:9#2: {headline or 'a.c:5 writes, a.c:7 reads without a lock'} (1 "
-                              "race, 1 place)\n", out)
+                              "place)\n", out)
         for event in (2, 4):   # before the first access, and after the second
             self.assertNotIn("hand this on", self.with_uses(event, ("main store relaxed", "T1 load relaxed")))
 

@@ -39,7 +39,7 @@ def sections(text, report, is_good=True):
         given = view.Given((), written, Verdict(is_good, ""))
         counts, gathered = Counts(*shb.counts_of(shb.read_trace(text)[0])), gathered_of(written)
         kinds = view.Kinds(gathered, view.Stacks())
-        made = view.Subject(given, counts, 0, False, counts.events)
+        made = view.Subject(given, counts, counts.events)
         return view.make_sections(asked(), kinds, made, Trace(file, QUIET), gathered.groups())[1]
 
 
@@ -48,7 +48,7 @@ def gathered_of(file):
     gathered, report = Gathered(), Report(file)
     for race in report.races():
         gathered.share(race)
-        gathered.add(race, report.places.get(race.place, 0))
+        gathered.add(race)
     return gathered
 
 

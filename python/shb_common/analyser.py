@@ -11,7 +11,7 @@ from shb_common.report import BadReport
 
 MOST_SAID = 65_536  # bytes of what a program says that are kept
 MOST_WORDS = 500    # of these, those that are told as words of one line
-HEAD, FULL, LIST = ["races", "--list"], ["places"], ["places", "--list"]
+FULL, LIST = ["places"], ["places", "--list"]
 VARIABLES, LIST_VARIABLES = [*FULL, "--variables"], [*LIST, "--variables"]
 REFUSED = 2         # the status of `shb` for a refused trace
 

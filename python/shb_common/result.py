@@ -33,14 +33,13 @@ def access(name, location, in_trace, event=None, read=None):
 def entry(row, found, reads=((), ()), **more):
     """A row as an entry: `found` is the view's, `reads` are of each access its event and its fields."""
     there = {one["in_trace"]: one for one in found.get("accesses", ())}
-    races = {one["name"]: {"races": one["races"]} for one in found.get("variables", ()) if "races" in one}
     accesses = [{**there.get(text(in_trace), {}), **access(name, location, in_trace, *read)}
                 for name, location, in_trace, read in zip(row.names, row.key, row.texts, reads)]
-    variables = [{"name": text(name), "state": "known" if is_known else "unknown",
-                  **races.get(text(name), {})} for name, is_known in row.variables]
+    variables = [{"name": text(name), "state": "known" if is_known else "unknown"}
+                 for name, is_known in row.variables]
     return {"state": row.state(), "places": row.places, "accesses": accesses, "variables": variables,
             "has_more_variables": row.has_more,
-            **{name: found[name] for name in ("races", "blamed", "about", "headline", "remedy", "facts")
+            **{name: found[name] for name in ("blamed", "about", "headline", "remedy", "facts")
                if name in found},
             **more}
 

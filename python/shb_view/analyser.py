@@ -2,18 +2,16 @@
 
 import collections
 import os
-import subprocess
 import tempfile
 
-from shb_common.analyser import HEAD, REFUSED, LIST_VARIABLES, Run, rewound
+from shb_common.analyser import REFUSED, LIST_VARIABLES, Run, rewound
 from shb_common.refused import line_and_hint, without_note
-from shb_common.report import BadReport, Report
+from shb_common.report import Report
 from shb_common.words import Refused
 from shb_view.names import short
 
 MOST_BYTES = 4_096  # of a verdict that are looked at
 MOST_SAID, MOST_SHOWN = 200, 100  # columns of the program's words and of a refused line that are shown
-MOST_LISTED = 100_000  # races of a list that is read to its end
 BAD = 5  # the status of `shb check` for a bad report
 
 # What is known of a report. `is_good` is None where it wasn't judged.
@@ -54,24 +52,10 @@ class Analyser:
         line, hint = found
         return f"\n  {short(line, MOST_SHOWN)}" + (f"\n  hint: {hint}" if hint else "")
 
-    def head(self, take):
-        """The report of `races --list`. Its races are given to `take`, if they are few."""
-        with self.started(HEAD, self.trace, subprocess.PIPE) as run:
-            try:
-                report = Report(run.out)
-                if report.count <= MOST_LISTED:
-                    for race in report.races():
-                        take(race)
-                return report
-            except BadReport as fault:
-                self.ended(HEAD, run)
-                raise Refused(f"`shb races --list` wrote no report: {fault}") from None
-
-    def nearest(self):
-        """The nearest race of each variable at each place, that of the place first."""
-        with tempfile.TemporaryFile() as listed:
-            self.write(LIST_VARIABLES, listed)
-            yield from Report(listed).races()
+    def nearest(self, listed):
+        """The report of the nearest race of each variable at each place, which it writes to an open file."""
+        self.write(LIST_VARIABLES, listed)
+        return Report(listed)
 
     def write(self, words, file):
         with self.started(words, self.trace, file) as run:

@@ -101,8 +101,7 @@ class Counting:
         self.before = {}  # by group and thread: its last access
         self.writes = {}  # by variable: its last write
         self.sources = {}  # by a racing read: the write that it saw, or None
-        # By variable and location: the stacks of the racing accesses, or of a run of all accesses, each with
-        # whether no lock is held.
+        # By variable and location: the stacks of the accesses, each with whether no lock is held.
         self.callers = collections.defaultdict(collections.Counter)
         self.sights = uses.sights if uses else ()
         self.seen = set()  # where races write and then read that, as pairs
@@ -208,7 +207,7 @@ class Counting:
             self.noted[number] = Noted(tuple(self.recent[thread]), held.newest()[0])
         if self.uses is None:
             word, of = self.access_kinds.of(number, word, variable), self.access_kinds.in_trace(variable)
-            if number in self.racing and stacks.numbers:
+            if stacks.numbers:
                 self.callers[of, location][stacks.numbers[number - 1], not held.locks] += 1
             free, of = (stacks.free_of(number), b"") if word == b"f" else (None, of)
             self.count(group, Access(number, variable, (location, thread, word, held.names(), of), free))

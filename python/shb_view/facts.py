@@ -49,7 +49,7 @@ class Site:
         self.wrong = collections.defaultdict(int)  # how many of these write
         self.bare = 0  # accesses that hold no lock
         self.unknown = 0  # accesses whose locks aren't counted
-        self.partners = {}  # the lines that it races with, with how many races
+        self.partners = set()  # the lines that it races with
         self.later = set()  # those of these whose access came later in a race that was read
 
     def reads(self):
@@ -245,7 +245,7 @@ def sites_of(group, used, private, name):
         one, other = pair.locations
         for location, partner in {(one, other), (other, one)}:
             if location in sites:
-                sites[location].partners[partner] = pair.races
+                sites[location].partners.add(partner)
         for first, second in pair.places:
             if first in sites:
                 sites[first].later.add(second)

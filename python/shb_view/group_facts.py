@@ -145,13 +145,10 @@ def fact_entry(one, kinds):
 
 def part_of(group, names, kinds):
     """A group's races of some of its variables, by their names in the trace."""
-    pairs, races = [], collections.Counter(race.place for race in kinds.gathered.races(names))
-    for pair in group.pairs:
-        places = tuple(place for place in pair.places if place in races)
-        if places:
-            count = min(pair.races, sum(races[place] for place in places))  # none where they aren't counted
-            pairs.append(Pair(pair.locations, pair.closest, places, count))
-    return Group(tuple(pairs), tuple(dict.fromkeys(map(kinds.name, names))), tuple(names))
+    found = {race.place for race in kinds.gathered.races(names)}
+    parts = ((pair, tuple(place for place in pair.places if place in found)) for pair in group.pairs)
+    pairs = tuple(Pair(pair.locations, pair.closest, places) for pair, places in parts if places)
+    return Group(pairs, tuple(dict.fromkeys(map(kinds.name, names))), tuple(names))
 
 
 def merged_groups(groups, used, facts):

@@ -19,22 +19,19 @@ NAME = rb"(?s)(?P<base>.*?)(?P<block>#[0-9]+)?" + INSIDE + rb"(?P<of>(?: of .+)?
 
 
 class Pair:
-    """Two lines that race, whichever comes first. `places` are the one or two that they are, `races` how many
-    these have, and `closest` is the listed race whose events are closest in the trace."""
+    """Two lines that race, whichever comes first. `places` are the one or two that they are, and `closest` is
+    the listed race whose events are closest in the trace."""
 
-    __slots__ = "locations", "closest", "places", "races"  # a trace may have very many
+    __slots__ = "locations", "closest", "places"  # a trace may have very many
 
-    def __init__(self, locations, closest=None, places=(), races=0):
-        self.locations, self.closest, self.places, self.races = locations, closest, places, races
+    def __init__(self, locations, closest=None, places=()):
+        self.locations, self.closest, self.places = locations, closest, places
 
 
 class Group(collections.namedtuple("Group", "pairs variables names")):
     """`pairs` and `variables` are in the order in which the report names them, the variables those of the
     races that were read. An atomic is one variable, and a local has its own name; `names` are those in the
     trace, which has one for each thread that writes an atomic."""
-
-    def races(self):
-        return sum(pair.races for pair in self.pairs)
 
     def count(self):
         """How many places it has."""
@@ -82,8 +79,8 @@ class Gathered:
             self.events[first.name] = array.array("Q")
         self.events[first.name].extend(race.events)
 
-    def add(self, race, races):
-        """Takes a race that may be shown, of a place that has so many; 0 where they aren't counted."""
+    def add(self, race):
+        """Takes a race that may be shown."""
         place = race.place
         pair = self.pair_at(place)
         if not pair.places:
@@ -92,7 +89,6 @@ class Gathered:
             pair.closest = race
         if place not in pair.places:
             pair.places += (place,)
-            pair.races += races
 
     def pair_at(self, place):
         locations = place if place[0] <= place[1] else place[::-1]
@@ -115,11 +111,11 @@ class Gathered:
         return {place: sorted(races, key=lambda race: race.events) for place, races in found.items()}
 
     def variables(self):
-        """By place: how many of the races that were read each variable has, by its name in the trace."""
-        found = collections.defaultdict(collections.Counter)
+        """By place: the variables of its races, by their names in the trace."""
+        found = collections.defaultdict(set)
         for name in self.events:
             for race in self.races([name]):
-                found[race.place][name] += 1
+                found[race.place].add(name)
         return found
 
     def top(self, one):

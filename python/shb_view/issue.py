@@ -19,12 +19,9 @@ def issue_lines(view, section):
         yield from (flat(parts) for parts in told_of(section))
         return
     one, other = (window.events[access].event for access in window.accesses)
-    locations = tuple(sorted((one.location, other.location)))
-    races = next(pair.races for pair in section.group.pairs if pair.locations == locations)
     yield (f"data race on {short(view.kinds.name(one.name), NAME)}: "
            f"{flat([place(one.location), ' and ', place(other.location)])}")
-    yield (f"(one of {counted(races, 'race')} of these two lines in a recorded run)" if races > 1
-           else "(one race in a recorded run)")
+    yield "(one race in a recorded run)"
     for access in window.accesses:
         yield from access_lines(view, window, access)
     allocated = stack_lines(view.stacks.of_variable(view.kinds.in_trace(one.name)))
@@ -73,7 +70,6 @@ def order_text(view, window):
     if window.schedule is None:
         of_run = of_run or "No schedule of this race is at hand"
         return f"{of_run}: events are shown in the order of the trace."
-    of = (f"`shb check` found the schedule of race {window.race.number} good" if view.verdict.is_good
-          else f"`shb places` has a schedule of it, race {window.race.number}")
+    of = f"`shb check` found the schedule of race {window.race.number} good"
     its = counted(window.schedule.length, "event") + " of the page's trace" * view.of_run
     return f"{of}: after its {its} both accesses can execute next." + f" {of_run}." * bool(of_run)

@@ -313,7 +313,7 @@ function openTarget() {
 }
 
 if (rows.length > 1) {
-  const heads = { no: "No.", var: "Variable", fact: "Fact", at: "Line", races: "Races" };
+  const heads = { no: "No.", var: "Variable", fact: "Fact", at: "Line", races: "Places" };
   main.before(make("div", { class: "filter" }, field, file, fact, output, make("span", { class: "faint keys" },
     make("kbd", null, "/"), " filter, ", make("kbd", null, "↑↓"), " rows, ", make("kbd", null, "Enter"), " opens, ", make("kbd", null, "←→"), " step, ", make("kbd", null, "Esc"), " back")),
   make("div", { class: "heads", role: "group", "aria-label": "Sort by" }, Object.entries(heads).map(([name, label]) => make("button", { type: "button", name, class: name,

@@ -20,8 +20,7 @@ def document(view):
     origin, names = naming(view.stacks, {location for _, _, pair in pairs for location in pair.locations})
     places = [{**entry(view, section, pair, origin, names, variables), "group": number}
               for number, section, pair in pairs]
-    races = {} if view.of_run else {"races": view.made.races}
-    summary = {**races, "places": view.pairs, "groups": view.groups, **view.made.counts._asdict()}
+    summary = {"places": view.pairs, "groups": view.groups, **view.made.counts._asdict()}
     notes = [*view.notes, *notes_of(view), *view.about]
     return result.document("shb-view", summary, places, title=view.title, notes=notes,
                            groups=[group_entry(view, section) for section in view.sections])
@@ -44,7 +43,6 @@ def entry(view, section, pair, origin, names, variables):
         accesses.append(found)
     return {"places": len(pair.places), "accesses": accesses,
             "variables": variables_of(view, pair, variables),
-            **({} if view.of_run else {"races": pair.races}),
             **({"blamed": named(blamed, origin, names)} if blamed else {}),
             **({"about": flat(common_name(its))} if len(its := section.group.variables) > 1 else {}),
             "headline": flat(section.fact.tag), "remedy": flat(section.fact.remedy),
@@ -52,15 +50,9 @@ def entry(view, section, pair, origin, names, variables):
 
 
 def variables_of(view, pair, variables):
-    """The variables that race at two lines, each with how many races it has where they are counted."""
-    found = {}
-    for place in pair.places:
-        for name, races in variables[place].items():
-            name = result.text(without_block(view.kinds.name(name)))
-            found[name] = found.get(name, 0) + races
-    if view.of_run or view.made.is_sample:
-        return [{"name": name} for name in sorted(found)]
-    return [{"name": name, "races": races} for name, races in sorted(found.items())]
+    """The variables that race at two lines."""
+    names = {without_block(view.kinds.name(name)) for place in pair.places for name in variables[place]}
+    return [{"name": name} for name in sorted(map(result.text, names))]
 
 
 def named(location, origin, names):

@@ -8,7 +8,7 @@ from shb_view.issue import issue_lines
 from shb_view.names import code_line, columns, padded, short
 from shb_view.stacks import caller_lines, origins
 from shb_view.words import (MOST_DETAILED, MOST_SITES, about, accesses_text, bad_words, flat_in, lock_words,
-                            notes_of, partner_parts, place, races_text, share, summary, thread_parts)
+                            notes_of, partner_parts, place, share, summary, thread_parts)
 
 NAME = 80  # columns of a name or a location
 LINE = 100  # columns of a line of code
@@ -55,7 +55,8 @@ def text_lines(view, colours, is_whole):
 
 def headline(number, section, colours):
     name = flat(common_name(section.group.variables))
-    return colours.bold(f"{number}. {name}: {flat(section.fact.tag)}") + f" ({races_text(section.group)})"
+    places = counted(section.group.count(), "place")
+    return colours.bold(f"{number}. {name}: {flat(section.fact.tag)}") + f" ({places})"
 
 
 def section_lines(view, number, section, colours):

@@ -158,11 +158,11 @@ def still_racing(program, trace, changes):
     """Of each change the variables that still race: of the first ones, if all are too much to try."""
     changes = changes[:MOST_LINES // trace.count()]
     racing = [set() for _ in changes]
-    with tempfile.TemporaryFile() as file:
+    with tempfile.TemporaryFile() as file, tempfile.TemporaryFile() as listed:
         bounds = write_copies(file, trace, changes)
         file.flush()
         try:
-            for race in Analyser(program, file).nearest():
+            for race in Analyser(program, file).nearest(listed).races():
                 first, second = race.events
                 if bisect.bisect(bounds, first) == bisect.bisect(bounds, second):
                     number, _, name = race.accesses[0].name.partition(b"~")

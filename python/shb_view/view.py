@@ -12,7 +12,7 @@ from shb_common.report import Report, in_order
 from shb_common.stacks import BadStacks, Stacks
 from shb_common.variables import without_block
 from shb_common.words import Refused
-from shb_view.analyser import MOST_LISTED, Analyser, Verdict
+from shb_view.analyser import Analyser, Verdict
 from shb_view.counting import Counting, Kinds
 from shb_view.facts import RANKS
 from shb_view.group_facts import Facts, merged_groups
@@ -28,7 +28,6 @@ from shb_view.words import MOST_DETAILED
 MOST_GROUPS = 10_000
 MOST_REPORT = 100_000_000  # bytes of a report with schedules that the view asks for
 NUMBER = 7  # bytes of an event in a schedule, about
-OWN = Verdict(None, "")  # `check` finds each report of `shb` good
 TOO_LONG = Verdict(None, "No schedules were made, since they would take over 100 MB.")
 
 
@@ -37,16 +36,16 @@ class Given(collections.namedtuple("Given", "words file verdict")):
 
     def order(self, race, events):
         """Some events in the order of a race's schedule, with that, if it may be shown; else as they are."""
-        is_known = self.verdict.is_good or self.verdict is OWN
-        return in_order(self.file, race, events) if is_known and race.schedule is not None else (events, None)
+        has_schedule = self.verdict.is_good and race.schedule is not None
+        return in_order(self.file, race, events) if has_schedule else (events, None)
 
 
-NO_REPORT = Given((), None, OWN)
+NO_REPORT = Given((), None, Verdict(None, ""))
 
 
-# The races of a trace with so many events, and how many these are. Of a sample (`is_sample`) one race of each
-# variable at each place is known; of a recorded run too, which has `uses`, and whose `counts` are the run's.
-Subject = collections.namedtuple("Subject", "given counts races is_sample events uses", defaults=(None,))
+# The races of a trace with so many events: of each variable at each place the nearest. A recorded run has
+# `uses`, and its `counts` are the run's.
+Subject = collections.namedtuple("Subject", "given counts events uses", defaults=(None,))
 
 # What is to be made of a trace: the `shb` to run, whether what comes before the races is to be shown, folders
 # of sources, whether those that the stacks name are to be shown, the title, and notes on the trace.
@@ -67,7 +66,7 @@ class View(collections.namedtuple("View", "title made pairs groups sections sour
                                           "about turns command judge", defaults=((), "", "", ""))):
     """All that is shown. `pairs` and `groups` are how many there are, `sections` those that are shown.
     `notes` are what the caller said of the trace, `about` what it said of the recorder. `judge` is the
-    command that makes the schedules of a recorded run's page again and judges them, or nothing."""
+    command that makes the schedules of a page again and judges them, or nothing."""
 
     @property
     def of_run(self):
@@ -88,7 +87,7 @@ def are_at(places, section):
 def make_view(path, stacks, asked, progress):
     with contextlib.ExitStack() as room:
         file, gathered = room.enter_context(open_regular(path)), Gathered()
-        made = analysed(asked.shb, file, gathered, progress, room)
+        made = of_trace(asked, file, gathered, room)
         try:
             kinds = Kinds(gathered, Stacks(stacks, made.events))
         except BadStacks as fault:
@@ -101,7 +100,7 @@ def view_of_run(run, asked, progress):
         file, gathered = room.enter_context(open(run.trace, "rb")), Gathered()
         made = of_run(run, asked, file, gathered, room)
         view = view_of(file, made, Kinds(gathered, run.stacks), asked, progress, run.unseen)
-    return with_run(view, run)._replace(judge=judge_of(made, run.trace))
+    return with_run(view, run)
 
 
 def view_of(file, made, kinds, asked, progress, unseen={}):
@@ -114,7 +113,7 @@ def view_of(file, made, kinds, asked, progress, unseen={}):
                     kinds.stacks.sources if asked.has_recorded else {})
     notes = [*map(readable, asked.notes), *warnings(file.name)]
     return View(title, made, sum(group.count() for group in groups), count, sections, source, notes,
-                kinds.stacks, kinds)
+                kinds.stacks, kinds, judge=judge_of(made, file.name))
 
 
 def with_run(view, run):
@@ -126,25 +125,11 @@ def with_run(view, run):
                          command=readable(run.command))
 
 
-def analysed(shb, file, gathered, progress, room):
-    """The races of an open trace: the nearest of each place, with its schedule if these aren't too long."""
-    analyser = Analyser(shb, file)
-    head = analyser.head(gathered.share)
-    is_sample, given = head.count > MOST_LISTED, NO_REPORT
-    is_long = len(head.places) * head.counts.events * NUMBER > MOST_REPORT
-    for race in analyser.nearest() if is_sample or is_long else ():
-        if is_sample:
-            gathered.share(race)
-        races = head.places.pop(race.place, 0) if is_long else 0
-        if races:   # of a place the first one is the nearest
-            gathered.add(race, races)
-    if is_long:
-        given = NO_REPORT._replace(verdict=TOO_LONG)
-    elif head.count:
-        given = Given(FULL, room.enter_context(tempfile.TemporaryFile()), OWN)
-        analyser.write(FULL, given.file)
-        read_report(given, gathered, head.places, progress)
-    return Subject(given, head.counts, head.count, is_sample, head.counts.events)
+def of_trace(asked, file, gathered, room):
+    """The races of an open trace, with schedules if pictures are asked for."""
+    report = Analyser(asked.shb, file).nearest(room.enter_context(tempfile.TemporaryFile()))
+    races = list(report.races())
+    return Subject(gather(asked, file, races, races, gathered, room), report.counts, report.counts.events)
 
 
 def of_run(run, asked, file, gathered, room):
@@ -153,18 +138,23 @@ def of_run(run, asked, file, gathered, room):
     races = [race._replace(events=pair) for race in run.races
              for pair in [run.uses.pair(*race.events)] if pair]
     near = [race for race in races if not run.uses.are_apart(*race.events)]
+    return Subject(gather(asked, file, races, near, gathered, room), run.counts, run.uses.count, run.uses)
+
+
+def gather(asked, file, races, near, gathered, room):
+    """Gathers these races, and gives the report with the schedules of those that are near, if any."""
     given, found = schedules(asked.shb, file, near, room) if near and asked.has_windows else (NO_REPORT, {})
     of_near = {race.events: found.get(race.events, race) for race in near}
     for race in races:
         gathered.share(race)
-        gathered.add(of_near.get(race.events, race), 0)
-    return Subject(given, run.counts, len(races), False, run.uses.count, run.uses)
+        gathered.add(of_near.get(race.events, race))
+    return given
 
 
 def schedules(shb, file, races, room):
-    """The report of `shb places` on the trace of a recorded run's page, as `shb check` judges it, and its
-    races by their events: those of each variable at each place, or of each place alone if these would be too
-    long. A schedule has events before the second access alone."""
+    """The report of `shb places` on the trace of a page, as `shb check` judges it, and its races by their
+    events: those of each variable at each place, or of each place alone if these would be too long. A
+    schedule has events before the second access alone."""
     most, every = MOST_REPORT // NUMBER, sum(race.events[1] for race in races)
     ends = {race.place: race.events[1] for race in races}
     if sum(ends.values()) > most:
@@ -181,7 +171,7 @@ def schedules(shb, file, races, room):
 
 
 def judge_of(made, path):
-    """The command that makes a recorded run's schedules again and judges them, in any folder."""
+    """The command that makes a page's schedules again and judges them, in any folder."""
     if not made.given.words:
         return ""
     path = shlex.quote(readable(os.path.abspath(path)))
@@ -199,17 +189,9 @@ def open_regular(path):
     return open(path, "rb")
 
 
-def read_report(given, gathered, places, progress):
-    """Gathers the nearest races of a report; `places` has how many each place has."""
-    size, report = os.fstat(given.file.fileno()).st_size, Report(given.file)
-    for race in report.races():
-        gathered.add(race, places[race.place])
-        progress.step("reading the report", report.lines.start, size)
-
-
 def make_sections(asked, kinds, made, trace, groups, unseen={}):
-    """How many groups there are, and those that are shown, in the order of their facts and then most races
-    first, or uses of a run; the first MOST_DETAILED with their windows if these are asked for."""
+    """How many groups there are, and those that are shown, in the order of their facts and then most uses
+    first; the first MOST_DETAILED with their windows if these are asked for."""
     if not groups:
         return 0, []
     wanted = {event for group in groups for event in group.closest().events}
@@ -224,7 +206,7 @@ def make_sections(asked, kinds, made, trace, groups, unseen={}):
             left = still_racing(asked.shb, trace, list(trials.values()))
             found = after_trials(found, facts, trials, left,
                                  lambda: merged_groups(groups, counting.used, facts))
-        found.sort(key=lambda it: (RANKS[it.fact.form], -(it.group.races() or it.uses.total())))
+        found.sort(key=lambda it: (RANKS[it.fact.form], -it.uses.total()))
         sections = [make_section(it, counting, unseen) for it in found[:MOST_GROUPS]]
         if asked.has_windows:
             races = [section.group.closest() for section in sections[:MOST_DETAILED]]

@@ -110,19 +110,15 @@ def share(count, total, is_bare):
 
 
 def partner_parts(site):
-    """The lines that a line races with, most races first."""
-    partners = sorted(site.partners.items(), key=lambda item: (-item[1], by_numbers(item[0])))
-    return listed([[place(location), f" ({counted(races, 'race')})" if races else ""]
-                   for location, races in partners], MOST_PARTNERS)
+    """The lines that a line races with."""
+    return listed([[place(location)] for location in sorted(site.partners, key=by_numbers)], MOST_PARTNERS)
 
 
 def summary(view):
     """How much the report and the trace have."""
     size = ", ".join(counted(count, name[:-1]) for name, count in view.made.counts._asdict().items())
-    if view.of_run:
-        return f"{counted(view.pairs, 'place')} with races, in {counted(view.groups, 'group')}", size
-    lines = f" at {counted(view.pairs, 'place')}, in {counted(view.groups, 'group')}" if view.groups else ""
-    return counted(view.made.races, "race") + lines, size
+    groups = f", in {counted(view.groups, 'group')}" if view.groups else ""
+    return f"{counted(view.pairs, 'place')} with races{groups}", size
 
 
 def bad_words(view):
@@ -142,18 +138,15 @@ def notes_of(view):
     """What the reader has to know of the report."""
     if view.verdict.is_good:
         yield f"{verified_words(view)} Check again: `{view.judge}`."
-    elif view.verdict.is_good is None and view.made.races and view.verdict.words:
+    elif view.verdict.is_good is None and view.groups and view.verdict.words:
         yield view.verdict.words
     if not view.made.counts.events:
         yield "The trace has no events."
-    elif not view.made.races:
+    elif not view.groups:
         yield ("Any two conflicting accesses are ordered in this trace. A run with another interleaving may "
                "have races.")
     if view.sections and view.stacks.numbers:
         yield COUNTS[view.of_run]
-    if view.made.is_sample:
-        yield ("The trace has too many races to look at each. Call stacks are those of one race of each "
-               "variable at each place.")
     if view.sections:
         shown = [site.location for section in view.sections
                  for site in section.sites[:MOST_SITES] if site.location]
@@ -189,9 +182,3 @@ def told_of(section):
                ", whose own atomics and futexes aren't seen."]] * bool(section.unseen)
     return [*behind * section.is_behind, *unseen, *section.fact.sentences,
             *[["Remedy: ", *section.fact.remedy]] * bool(section.fact.remedy)]
-
-
-def races_text(group):
-    """How many races a group has, where that is known, at how many places."""
-    races = group.races()
-    return (f"{counted(races, 'race')}, " if races else "") + counted(group.count(), "place")

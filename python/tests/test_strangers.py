@@ -50,7 +50,7 @@ class Packed(farm.Case):
         shb = self.counting()
         self.assertEqual(self.farm("--memory", "70,2000", shb=shb).status, 1)
         self.assertEqual(self.ends()["a.std.gz"][0], "report")
-        self.assertEqual(self.runs(), 4)    # a list, a full report, the view's two
+        self.assertEqual(self.runs(), 3)    # a list, a full report, the view's list
 
 
 class Variables(farm.Case):
@@ -191,7 +191,7 @@ class Facts(farm.Case):
                           found["summary"]["status"]), ("shb-places", 1, "shb-farm", 1))
         self.assertEqual((place["state"], place["places"], place["traces"], place["example"],
                           place["variables"]),
-                         ("unknown", 1, 1, "race.std", [{"name": "x", "state": "unknown", "races": 1}]))
+                         ("unknown", 1, 1, "race.std", [{"name": "x", "state": "unknown"}]))
         self.assertEqual([(access["location"], access["uses"], access["threads"], access["without_lock"])
                           for access in place["accesses"]],
                          [("a.c:1", {"write": 1}, {"T1": 1}, 1), ("b.c:2", {"write": 1}, {"T2": 1}, 1)])
