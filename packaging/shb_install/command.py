@@ -15,8 +15,8 @@ from shb_common.words import Refused
 from shb_install import package, placing, sources, tree
 
 EPILOG = """\
-Exit status: 0; 1 if it can't be done, with the reason. Then an older installation stays as it was, or is
-listed so that installing again goes on and uninstalling leaves nothing."""
+Exit status: 0; 1 if it can't be done, with the reason. What was installed by then goes by `uninstall`, or by
+installing again."""
 
 
 def arguments(words):
@@ -82,7 +82,7 @@ def install(options):
 def uninstall(options):
     place = place_of(options)
     print(f"uninstalled from {place}" if placing.uninstall(place)
-          else f"nothing is installed in {place}: there is no {place / placing.LISTED}")
+          else f"nothing is installed in {place}: there is no {place / placing.VERSION}")
 
 
 def packaged(options, made, prefix, library):

@@ -15,6 +15,7 @@ DOCUMENTS = ("README.md", "CHANGELOG.md", "SECURITY.md", "CITATION.cff", "record
 DOCUMENT_FOLDERS = ("docs/", "examples/")
 OF_THE_CHECKOUT = ("docs/GATE.md", "docs/PROOF-NOTES.md")   # they are about files that aren't installed
 BASH, ZSH, MANUAL = "share/bash-completion/completions", "share/zsh/site-functions", "share/man/man1"
+DOCUMENTATION = "share/doc/shb"
 # the commands with a page, and what it says of each under NAME
 PAGES = {
     "shb": "finds the data races of a trace",
@@ -47,7 +48,7 @@ def make(tree, shb, library, files, version):
             if name.startswith("recorder/"):
                 copy(TOP / name, recorder.parent / name)
             if name in DOCUMENTS or name.startswith(DOCUMENT_FOLDERS) and name not in OF_THE_CHECKOUT:
-                copy(TOP / name, tree / "share/doc/shb" / name)
+                copy(TOP / name, tree / DOCUMENTATION / name)
         build_recorder(recorder, library, version)
         for source in (recorder / "shb-std", recorder / "module-reader", *recorder.glob("lib/libtsan*")):
             copy(source, tree / HOME / source.name)

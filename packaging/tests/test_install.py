@@ -70,20 +70,13 @@ class Tree(installing.Case):
         for module in modules:
             self.assertEqual(len(list(module.parent.glob(f"__pycache__/{module.stem}.*.pyc"))), 1, module)
 
-    def not_as_root(self, *words):
-        """Calls the command as if it weren't root's, who may not follow a link out of the prefix."""
-        code = ("import sys; sys.path[:0] = sys.argv[1:3]; from shb_install import command, placing; "
-                "placing.is_root = lambda: False; sys.exit(command.main(sys.argv[3:]))")
-        call(sys.executable, "-B", "-c", code, TOP / "packaging", TOP / "python", *words,
-             env=installing.environment())
-
     def test_a_bin_that_is_a_link_to_a_folder_elsewhere(self):
         """Each command finds its parts by both paths, as where ~/.local/bin leads to ~/bin."""
         prefix = self.folder / ".local"
         prefix.mkdir()
         (self.folder / "bin").mkdir()
         (prefix / "bin").symlink_to("../bin")
-        self.not_as_root("--shb", installing.SHB, "--prefix", prefix, "install")
+        installing.make(TOP, "install", f"PREFIX={prefix}")
         trace = self.folder / "traces" / "race.std"
         trace.parent.mkdir()
         trace.write_text(RACE)
@@ -95,7 +88,7 @@ class Tree(installing.Case):
         program = self.folder / "account"
         call("gcc", "-fsanitize=thread", "-g", TOP / "examples" / "account.c", "-o", program)
         call(self.folder / "bin/shb-record", "-o", self.folder / "results", program, status=66)
-        self.not_as_root("--prefix", prefix, "uninstall")
+        installing.make(TOP, "uninstall", f"PREFIX={prefix}")
         self.assertEqual(
             (list(prefix.iterdir()), list((self.folder / "bin").iterdir())), ([prefix / "bin"], []))
 
@@ -204,7 +197,7 @@ class Uninstalled(installing.Case):
         compiled.mkdir(exist_ok=True)
         (compiled / "command.cpython-311.pyc").touch()
         self.make("uninstall", f"PREFIX={prefix}")
-        self.assertEqual(list(prefix.iterdir()), [])
+        self.assertFalse(prefix.exists())
         self.make("uninstall", f"PREFIX={prefix}")      # nothing there is no fault
 
     def test_a_folder_that_is_in_use_stays(self):
@@ -216,7 +209,7 @@ class Uninstalled(installing.Case):
 
     def test_what_was_there_before_stays(self):
         prefix = self.folder / "prefix"
-        for folder in ("bin", "share/man/man1", "share/zsh"):
+        for folder in ("bin", "share/man/man5", "share/zsh"):
             (prefix / folder).mkdir(parents=True)
         (prefix / "bin").chmod(0o2775)
         (prefix / "bin/other").write_text("other")
@@ -230,13 +223,25 @@ class Uninstalled(installing.Case):
     def test_a_new_installation_takes_the_place_of_an_old_one(self):
         prefix = self.folder / "prefix"
         self.make("install", f"PREFIX={prefix}")
-        (prefix / "bin/shb-old").write_text("old")
-        with open(prefix / "lib/shb/installed", "a") as listed:
-            listed.write("bin/shb-old\n")
-        (prefix / "bin/shb").write_text("old")
+        for name in ("lib/shb/shb-old", "lib/shb/shb_old.py", "share/man/man1/shb-old.1", "bin/shb"):
+            (prefix / name).write_text("old")
+        (prefix / "bin/shb-old").symlink_to("../lib/shb/shb-old")
+        (prefix / "bin/shb-view").unlink()
+        (self.folder / "theirs").touch()
+        (prefix / "bin/shb-view").symlink_to(self.folder / "theirs")
         self.make("install", f"PREFIX={prefix}")
-        self.assertFalse((prefix / "bin/shb-old").exists())
+        self.assertEqual([path for path in prefix.rglob("*") if "old" in path.name], [])
+        self.assertEqual((self.folder / "theirs").read_text(), "")
         self.assertEqual((prefix / "bin/shb").read_bytes(), installing.SHB.read_bytes())
+        self.make("uninstall", f"PREFIX={prefix}")
+        self.assertEqual(list(self.folder.iterdir()), [self.folder / "theirs"])
+
+    def test_an_installation_that_was_stopped_is_taken_away(self):
+        prefix = self.folder / "prefix"
+        self.make("install", f"PREFIX={prefix}")
+        for path in [*prefix.rglob("*.md"), prefix / "bin/shb", prefix / "share/man/man1/shb.1"]:
+            path.unlink(missing_ok=True)
+        shutil.rmtree(prefix / "share/doc")
         self.make("uninstall", f"PREFIX={prefix}")
         self.assertEqual(list(self.folder.iterdir()), [])
 
@@ -260,7 +265,6 @@ class Uninstalled(installing.Case):
         self.assertEqual(sorted(TOP.iterdir()), before)
         (self.folder / "file").touch()
         self.assertIn("Not a directory", self.refused("install", shb, f"PREFIX={self.folder}/file/prefix"))
-        self.assertIn("Not a directory", self.refused("uninstall", f"PREFIX={self.folder}/file/prefix"))
         none = self.folder / "none"
         self.assertIn(f"{none}: no such program;",
                       self.refused("install", f"SHB={none}", f"PREFIX={self.folder}/prefix"))
@@ -270,11 +274,6 @@ class Uninstalled(installing.Case):
         self.assertIn(f"{other} can't be run on this machine: it ended with status 127 this program asks for "
                       "popcnt",
                       self.refused("install", f"SHB={other}", f"PREFIX={self.folder}/prefix"))
-        (self.folder / "prefix/bin").mkdir(parents=True)
-        (self.folder / "prefix/bin/shb").write_text("theirs")
-        self.assertIn("move them away first: bin/shb",
-                      self.refused("install", shb, f"PREFIX={self.folder}/prefix"))
-        self.assertEqual(contents(self.folder / "prefix"), {"bin/shb": b"theirs"})
 
     def test_a_program_with_blanks_in_its_path(self):
         program = self.folder / "a b" / "shb"
@@ -291,4 +290,4 @@ class Uninstalled(installing.Case):
             self.assertIn("[/usr/lib/shb/libtsan.so]",
                           call("readelf", "-d", self.folder / "image/usr/lib/shb/libtsan.so"))
         self.make("uninstall", "PREFIX=/usr", f"DESTDIR={self.folder}/image")
-        self.assertEqual(list(self.folder.iterdir()), [])
+        self.assertEqual(list((self.folder / "image").iterdir()), [])
