@@ -263,6 +263,19 @@ class Records(side_by_side.Case):
         self.assertEqual(changed.crates_in(files, layers.uses), {"low"})
         self.assertEqual(layers.above({"low"}), ["low", "high"])
 
+    def test_a_change_names_the_tests_of_its_package(self):
+        """With --quick those of its own alone."""
+        for files, is_quick, folders in (({"python/shb_fix/lines.py"}, True, {"tests": ["test_fix"]}),
+                                         ({"docs/GUIDE.md", "tests/viewing.py"}, True, {}),
+                                         ({"recorder/tests/test_uses.py", "tests/test_gone.py"}, True,
+                                          {"recorder/tests": ["test_uses"]})):
+            self.assertEqual(changed.tests_of(files, is_quick), folders)
+        found = changed.tests_of({"python/shb_view/text.py"}, True)
+        self.assertEqual(list(found), ["tests"])
+        self.assertIn("test_view_page", found["tests"])
+        self.assertIn("test_blamed", changed.tests_of({"python/shb_view/text.py"}, False)["recorder/tests"])
+        self.assertIn("test_words", changed.tests_of({"tests/viewing.py"}, False)["tests"])
+
 
 if __name__ == "__main__":
     unittest.main()

@@ -46,11 +46,14 @@ def put_commands(folder):
 
 
 def build_recorder(folder, *settings):
-    """Builds the recorder from its sources in a new folder."""
+    """Builds the recorder from its sources in a new folder; the first one may be a copy of RECORDER, which is
+    built already."""
     global BUILT, COMMAND
-    copy = folder / "recorder"
-    shutil.copytree(SOURCES, copy, ignore=shutil.ignore_patterns("lib", "shb-std", "module-reader", "tests"))
-    must(call("make", "-C", copy, *settings))
+    copy, built = folder / "recorder", not BUILT and os.environ.get("RECORDER")
+    made = [] if built else ["lib", "shb-std", "module-reader"]
+    shutil.copytree(built or SOURCES, copy, symlinks=True, ignore=shutil.ignore_patterns("tests", *made))
+    if not built:
+        must(call("make", "-C", copy, *settings))
     put_commands(folder)
     BUILT, COMMAND = BUILT or copy, COMMAND or folder / "python" / "shb-record"
     return copy

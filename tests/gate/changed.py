@@ -10,14 +10,17 @@ The gate alone (make test) is the verdict.
 - `rt check` in each crate that changed and, without --quick, in those above it: over the work that
   earlier checks kept;
 - without --quick: the must-fail edits of the crates that the record (tests/gate/refused.sums) doesn't
-  answer for, the crates' calls, and the Python tests of the folders that changed.
+  answer for, and the crates' calls if a crate changed;
+- the tests of the packages that changed (`TESTS` below), with --quick those of their own alone.
 
 --quick is what takes less than five minutes after a small change, once the crates below have
 been checked before.
 """
 
 import argparse
+import os
 import pathlib
+import re
 import subprocess
 import sys
 
@@ -30,13 +33,21 @@ import record
 ROOT = pathlib.Path(__file__).resolve().parent.parent.parent
 SUMS = ROOT / "tests" / "gate" / "refused.sums"
 FORMS = ("edits.py", "layout.py", "documents.py", "surface.py", "refusals.py", "endless.py", "weight.py")
-# Which folders' changes are tested by which tests, all on the built program.
-SUITES = {
-    "tests": ("tests/", "python/", "reference/", "examples/", "crates/"),
-    "recorder/tests": ("recorder/", "python/", "tests/side_by_side.py"),
-    "python/tests": ("python/", "tests/side_by_side.py"),
-    "packaging/tests": ("packaging/", "Makefile", "recorder/", "python/", "tests/side_by_side.py"),
-}
+# By the beginnings of a changed file's name: the tests of the package alone, which --quick runs too, and
+# those that it may break besides. A test that changed runs in any case.
+TESTS = (
+    ("python/shb_view python/shb-view", "tests/test_view*.py tests/test_facts.py",
+     "recorder/tests/test_blamed.py recorder/tests/test_results.py python/tests/test_calls.py"),
+    ("python/shb_fix python/shb-fix", "tests/test_fix.py", ""),
+    ("python/shb_farm python/shb-farm", "python/tests/test_*.py", ""),
+    ("python/shb_record python/shb-record", "recorder/tests/test_results.py recorder/tests/test_parts.py",
+     "recorder/tests/test_*.py"),
+    ("python/shb_common", "python/tests/test_*.py", "tests/test_view*.py recorder/tests/test_*.py"),
+    ("recorder/", "recorder/tests/test_parts.py recorder/tests/test_uses.py", "recorder/tests/test_*.py"),
+    ("packaging/ Makefile", "packaging/tests/test_install.py", "packaging/tests/test_*.py"),
+    ("crates/ reference/ examples/", "", "tests/test_*.py"),
+)
+SHARED = re.compile(r"(?:.+/)?tests/(?!test_|run)\w+\.py")
 
 
 def git(*words):
@@ -89,17 +100,29 @@ def try_edits(steps, layers, known):
                 steps.note(text, is_refused)
 
 
-def run_suites(steps, files):
-    """Runs the Python tests of the folders that changed, on the program if it is built. Those that
-    it leaves out."""
-    wanted = [suite for suite, heads in SUITES.items() if any(it.startswith(heads) for it in files)]
-    program = next((it for it in (ROOT / "crates/shb/out/shb", ROOT / "bin/shb") if it.exists()), None)
-    if program is None:
-        return [*SUITES] if wanted else []
-    for suite in wanted:
-        steps.run(
-            f"{suite} on {program.relative_to(ROOT)}", [sys.executable, f"{suite}/run.py", str(program)])
-    return [it for it in SUITES if it not in wanted]
+def tests_of(files, is_quick):
+    """The tests that these changed files may break, by the folder whose run.py runs them."""
+    patterns = [file for file in files if pathlib.PurePath(file).match("tests/test_*.py")]
+    if not is_quick:    # what several tests of a folder share
+        patterns += [f"{os.path.dirname(file)}/test_*.py" for file in files if SHARED.fullmatch(file)]
+    for heads, own, further in TESTS:
+        if any(file.startswith(tuple(heads.split())) and "/tests/" not in file for file in files):
+            patterns += [*own.split(), *([] if is_quick else further.split())]
+    names = {path.relative_to(ROOT) for it in patterns for path in ROOT.glob(it)}
+    found = {}
+    for path in sorted(names):
+        found.setdefault(str(path.parent), []).append(path.stem)
+    return found
+
+
+def run_tests(steps, found):
+    """Runs these tests, on the program if it is built, and says whether it is."""
+    program = next((it for it in (pathlib.Path(os.environ.get("SHB", "none")), ROOT / "crates/shb/out/shb",
+                                  ROOT / "bin/shb") if it.exists()), None)
+    for folder, names in found.items() if program else ():
+        what = f"{folder}: {len(names)} files of tests on {program}"
+        steps.run(what, [sys.executable, f"{folder}/run.py", str(program.resolve()), *names])
+    return program is not None
 
 
 def check_change(base, is_quick):
@@ -112,13 +135,16 @@ def check_change(base, is_quick):
     for name in to_check:
         steps.run(f"rt check {name}", ["rt", "check"], ROOT / "crates" / name)
     if is_quick:
-        left_out += ["the crates above those that changed", "all must-fail edits",
-                     "the tests of the crates and of the folders"]
+        left_out += ["the crates above those that changed", "all must-fail edits", "the tests of the crates"]
     else:
         left_out.append("a tenth of the edits that the record answers for")
-        steps.run("tests/calls.py", [sys.executable, "tests/calls.py"])
+        if any(file.startswith(("crates/", "tests/calls")) for file in files):
+            steps.run("tests/calls.py", [sys.executable, "tests/calls.py"])
         try_edits(steps, layers, layers.above({*layers.uses}))
-        left_out += run_suites(steps, files)
+    found = tests_of(files, is_quick)
+    has_program = run_tests(steps, found)
+    left_out.append("the tests of what didn't change" if has_program or not found else
+                    "all tests, since no program is built: `make build`, or SHB=PATH")
     print("left out: " + "; ".join(left_out))
     print(f"{steps.passed} passed, {len(steps.failed)} failed")
     return 1 if steps.failed else 0
