@@ -91,7 +91,7 @@ def entries_of(rows, out):
     """What the view says of the places of examples: by example and the two locations there."""
     found = {}
     for example in {row.example for row in rows if row.report.endswith(".report")}:
-        path = passes.full_path(out, example, "json")
+        path = passes.kept_path(out, example, "json")
         try:
             if path.stat().st_size <= MOST_FOUND:
                 places = json.loads(path.read_text(encoding="ascii"))["places"]

@@ -15,7 +15,7 @@ from shb_common.parts import ANALYSER, NO_ANALYSER, part
 from shb_common.sources import Sources
 from shb_common.standard import open_standard_files, tell, words_of, write_texts
 from shb_common.words import Refused, counted
-from shb_farm import engines, merging, outcomes, passes, running, since, tables, traces
+from shb_farm import engines, merging, outcomes, passes, since, tables, traces
 from shb_farm.calls import Calls
 
 ABOUT = """\
@@ -37,9 +37,8 @@ Files in OUT:
   unknown.places  the places that aren't known, as a file of known places
   traces.tsv      how each trace ended: a report, refused, out of memory, time
                   or size, or missing; with its seconds and MiB
-  reports/        for each unknown place the full report of the smallest trace
-                  that has it; of a trace that is too long for one that of
-                  'shb places --list', which has no schedules
+  reports/        for each unknown place what 'shb places --list --variables'
+                  writes of the smallest trace that has it
 
 Known places:
   On a line two locations, or functions as FILE:FUNCTION(), in either order,
@@ -65,7 +64,7 @@ Exit status:
   Several may be true. A script asks for one by its line in OUT/facts.tsv, a
   name, a tab and a number: traces, reports, refused, missing, damaged (call
   stacks), places, unknown, known, stale (lines of known places), unreported
-  (places whose full report is missing), and with --since new, gone, same. For
+  (places whose report is missing), and with --since new, gone, same. For
   example
 
       awk '$1 == "refused" && $2 > 0 { bad = 1 } END { exit bad }' out/facts.tsv
@@ -91,9 +90,8 @@ def arguments(words):
                              "see the same folders")
     parser.add_argument("--jobs", metavar="N", type=number(1), default=len(os.sched_getaffinity(0)),
                         help="with xargs: traces at once (as many as processors)")
-    parser.add_argument("--memory", metavar="MIB,..", type=numbers,
-                        help="memory of each pass; a trace that needs more goes on to "
-                        "the next (256,1024,4096, then with xargs what the machine has, with slurm 16384)")
+    parser.add_argument("--memory", metavar="MIB", type=number(1), default=1024,
+                        help="memory of a trace (%(default)s)")
     parser.add_argument("--seconds", metavar="N", type=number(1), default=3600,
                         help="processor time of a trace (%(default)s)")
     parser.add_argument("--size", metavar="MIB", type=number(1), default=1024,
@@ -120,18 +118,6 @@ def shell_words(text):
         raise argparse.ArgumentTypeError(f"{fault} in {text}") from None
 
 
-def numbers(text):
-    return sorted(map(number(1), text.split(",")))
-
-
-def memory_of(engine):
-    """The MiB of each pass, where none were asked for."""
-    if engine == "slurm":
-        return [256, 1024, 4096, 16384]
-    most = running.memory_of_this_machine()
-    return [mib for mib in (256, 1024, 4096) if mib < most] + [most]
-
-
 def command_of(variable, path):
     """A command by the variable that names it, else the one of this path, if there is one."""
     if os.environ.get(variable):
@@ -151,47 +137,36 @@ def pass_of(options, room):
     traces, out = os.path.realpath(options.traces), os.path.realpath(options.out)
     view = command_of("SHB_VIEW", part("shb-view"))
     return passes.Pass(shb, checksum, traces, out, str(room), view or "", options.links,
-                       seconds=options.seconds, size=options.size)
+                       memory=options.memory, seconds=options.seconds, size=options.size)
 
 
-def run_passes(options, work, names, outside=()):
-    """Runs the traces of these names, and returns how each ended. A trace begins with the first pass that has
-    room for it, and goes on if it has no outcome or too little memory. `outside` are links to skip."""
-    last = work._replace(memory=options.memory[-1])
-    endings = {name: merging.ending_of(last, name, outside) for name in names}
-    for memory in options.memory:
-        now = work._replace(memory=memory, last=memory == last.memory)
-        waiting = waiting_for(now, endings)
-        if waiting:
-            now = now._replace(names=waiting)
-            engines.ENGINES[options.engine](now, passes.write(now), options)
-            endings.update((name, merging.ending_of(last, name)) for name in waiting)
+def run_pass(options, work, names, outside=()):
+    """Runs those traces of these names that have no outcome that counts, the longest first, and returns how
+    each ended. `outside` are links to skip."""
+    endings = {name: merging.ending_of(work, name, outside) for name in names}
+    waiting = [name for name, ending in endings.items()
+               if ending.kind == "missing" and ending.size is not None]
+    if waiting:
+        now = work._replace(names=sorted(waiting, key=lambda name: -endings[name].size))
+        engines.ENGINES[options.engine](now, passes.write(now), options)
+        endings.update((name, merging.ending_of(work, name)) for name in waiting)
     return endings
 
 
-def waiting_for(work, endings):
-    """The traces that this pass has to run, the longest first."""
-    found = [name for name, ending in endings.items() if ending.kind == "missing" and ending.size is not None
-             and (work.last or running.memory_for(ending.size) <= work.memory)]
-    # not those that it didn't suffice for
-    found = [name for name in found if merging.ending_of(work, name).kind == "missing"]
-    return sorted(found, key=lambda name: -endings[name].size)
-
-
 def with_reports(options, work, rows):
-    """The rows of places, those that aren't known with the full report of their example."""
+    """The rows of places, those that aren't known with the report of their example."""
     examples = sorted({row.example for row in rows if not row.is_known})
-    full = work._replace(form=passes.FULL)
-    endings = run_passes(options, full, examples)
-    return [row if row.is_known else row._replace(report=report_of(full, row.example, endings[row.example]))
+    kept = work._replace(form=passes.KEPT)
+    endings = run_pass(options, kept, examples)
+    return [row if row.is_known else row._replace(report=report_of(kept, row.example, endings[row.example]))
             for row in rows]
 
 
 def report_of(work, name, ending):
-    """Where the full report of a trace is, below the folder of the outcomes, or why there is none."""
+    """Where the report of a trace is, below the folder of the outcomes, or why there is none."""
     if ending.kind != "report":
         return "missing" if ending.kind == "missing" else tables.why(ending)
-    return os.path.relpath(passes.full_path(work.out, name, "report"), work.out)
+    return os.path.relpath(passes.kept_path(work.out, name, "report"), work.out)
 
 
 def run(options):
@@ -202,14 +177,13 @@ def run(options):
         raise Refused(f"{options.source}: no such folder of sources")
     known_places = known.given(options.known, engines.say)
     earlier = since.read(options.since) if options.since else None
-    options.memory = options.memory or memory_of(options.engine)
     with passes.room_in(os.path.realpath(options.out)) as room:
         work = pass_of(options, room)
         names, outside = traces.names_in(work.traces, work.out, work.links)
         if not names:
             raise Refused(f"{options.traces}: there is no trace in this folder and below (NAME.std, "
                           "NAME.std.gz or NAME.std.xz)")
-        endings, calls = run_passes(options, work, names, outside), Calls(work.traces, work.links)
+        endings, calls = run_pass(options, work, names, outside), Calls(work.traces, work.links)
         rows, files = merging.rows_of(endings, known_places, calls)
         rows = with_reports(options, work, rows)
         found = found_of(options, rows, endings, known_places, len(calls.damaged), earlier)

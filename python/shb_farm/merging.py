@@ -47,8 +47,8 @@ def ending_of(work, name, outside=()):
 
 
 def rows_of(endings, known_places, calls):
-    """A row for each two locations that race (endings are by name), with the smallest trace that has them,
-    since a schedule is nearly as long as its trace: unknown ones first, and of these what most traces have.
+    """A row for each two locations that race (endings are by name), with the smallest trace that has them:
+    unknown ones first, and of these what most traces have.
     Functions and source files are those of a trace's own call stacks, which `calls` has. Returns the names of
     source files too."""
     found = Places(known_places)

@@ -12,8 +12,8 @@ import tempfile
 
 from shb_common.sums import blake2b
 
-LIST, FULL = "list", "full"     # the places of a trace; its report with schedules
-FOLDER_OF = {LIST: "outcomes", FULL: "reports"}
+LIST, KEPT = "list", "kept"     # the places of a trace; its report, which is kept
+FOLDER_OF = {LIST: "outcomes", KEPT: "reports"}
 LOCK, DONE = "lock", "done"
 MOST_OF_NAME = 60               # characters of a trace's name that are in the name of its outcome
 OTHER = re.compile(r"[^A-Za-z0-9._-]+")
@@ -21,10 +21,10 @@ OTHER = re.compile(r"[^A-Za-z0-9._-]+")
 # What a pass needs: the program and its checksum; the folders of the traces, of the outcomes, and for files
 # of this run that aren't whole yet (`room`); the command that says what is known of places, or nothing
 # (`view`); whether links may lead out of the folder of the traces; the MiB of address space (`memory`), the
-# seconds of processor time, and the MiB of a report and of the text of a packed trace (`size`); whether no
-# pass with more memory comes after it (`last`); and the traces to run, below their folder (`names`).
-Pass = collections.namedtuple("Pass", "shb program traces out room view links form memory seconds size last "
-                              "names", defaults=("", False, LIST, 0, 0, 0, True, []))
+# seconds of processor time, and the MiB of a report and of the text of a packed trace (`size`); and the
+# traces to run, below their folder (`names`).
+Pass = collections.namedtuple("Pass", "shb program traces out room view links form memory seconds size names",
+                              defaults=("", False, LIST, 0, 0, 0, []))
 
 
 def write(work):
@@ -73,10 +73,9 @@ def outcome_path(out, form, name):
     return pathlib.Path(out) / FOLDER_OF[form] / f"{key_of(name)}.outcome"
 
 
-def full_path(out, name, ending):
-    """What a pass for full reports kept of a trace: the `report`, without schedules of one that is too long,
-    or the `json` with what the view says of its places."""
-    return pathlib.Path(out) / FOLDER_OF[FULL] / f"{key_of(name)}.{ending}"
+def kept_path(out, name, ending):
+    """What is kept of a trace: the `report`, or the `json` with what the view says of its places."""
+    return pathlib.Path(out) / FOLDER_OF[KEPT] / f"{key_of(name)}.{ending}"
 
 
 def stands(outcome, work, name):
@@ -88,5 +87,5 @@ def stands(outcome, work, name):
         return int(outcome.words) >= limit
     if work.form == LIST or outcome.kind != "report":
         return True
-    path = full_path(work.out, name, "report")
+    path = kept_path(work.out, name, "report")
     return path.exists() and os.stat(path).st_size == int(outcome.words)

@@ -7,31 +7,10 @@ import signal
 
 from shb_common import analyser
 from shb_common.children import end_with
-from shb_common.limits import MOST_EVENTS, MOST_TEXT
 
 MIB = 1 << 20
-LIST_MIB = 128      # for a trace whose places alone are listed, which keeps names alone
-WORDS = {"list": analyser.LIST_VARIABLES, "full": [*analyser.FULL, "--workers", "1"]}
 # How a run ended: the kind, the words and the places of an outcome.
 End = collections.namedtuple("End", "kind words places", defaults=((),))
-
-
-def memory_for(size):
-    """The MiB of address space that a trace of so many bytes is first tried with.
-
-    The program keeps the text, at most 100 bytes an event, and rows of 4 bytes a thread. How many events and
-    rows there are isn't known before the trace is read: a line is taken to have 32 bytes, and the rows to fit
-    into 64 MiB. A trace that needs more is refused for its memory, and goes on to the next pass. Of a longer
-    text than the program keeps names alone are kept.
-    """
-    if size > MOST_TEXT:
-        return LIST_MIB
-    events = min(size // 32, MOST_EVENTS)
-    return 64 + (size + 100 * events) // MIB
-
-
-def memory_of_this_machine():
-    return os.sysconf("SC_PAGE_SIZE") * os.sysconf("SC_PHYS_PAGES") // MIB
 
 
 def free_memory():
@@ -40,7 +19,7 @@ def free_memory():
         for line in lines:
             if line.startswith("MemAvailable:"):
                 return int(line.split()[1]) // 1024
-    return memory_of_this_machine()
+    return 0
 
 
 class NotHere(Exception):
@@ -113,7 +92,7 @@ def end_of(work, status, said, written):
     return End("failed", f"{how} {said}")
 
 
-def analyse(work, form, given, out):
+def analyse(work, given, out):
     """Runs the program on an open trace as its standard input: it takes no file name that isn't UTF-8."""
-    answer = run(work, [work.shb, *WORDS[form]], given, out)
+    answer = run(work, [work.shb, *analyser.LIST_VARIABLES], given, out)
     return end_of(work, answer.status, answer.words, os.fstat(out.fileno()).st_size)

@@ -27,7 +27,7 @@ COMMAND = HERE.parent / "shb-farm"
 NEEDED = ("munged", "slurmctld", "slurmd", "sbatch", "scontrol", "unshare", "xargs", "mount")
 # traces.tsv has times
 TABLES = ("places.tsv", "facts.tsv", "places.txt", "places.sarif", "unknown.places")
-MEMORY = "256,2304"
+MEMORY = "256"
 SECONDS = 1800
 CONFIGURATION = """\
 ClusterName=loop

@@ -6,7 +6,7 @@ import subprocess
 import farm
 from farm import BAD, RACE
 from shb_farm import running
-from shb_farm.passes import Pass, key_of
+from shb_farm.passes import Pass
 from shb_farm.running import End
 
 MIB = 1 << 20
@@ -19,7 +19,7 @@ def many_places(threads):
 
 
 class Memory(farm.Case):
-    def test_a_trace_that_needs_more_goes_on(self):
+    def test_a_trace_that_needs_more_is_run_again_with_more(self):
         self.trace("many.std", MANY)
         self.trace("race.std", RACE)
         answer = self.farm("--memory", "16")
@@ -28,33 +28,15 @@ class Memory(farm.Case):
         shb = self.counting()
         self.assertEqual(self.farm("--memory", "16", shb=shb).status, 1)
         self.runs()
-        self.assertEqual(self.farm("--memory", "16", shb=shb).status, 1)
-        self.assertEqual(self.runs(), 0)
-        self.assertEqual(self.farm("--memory", "16,20,512", shb=shb).status, 1)
-        self.assertEqual(self.runs(), 1)            # 20 MiB are less than its size asks for, as are 16
+        for memory, runs in (("16", 0), ("10", 0), ("512", 1), ("16", 0)):
+            self.assertEqual((self.farm("--memory", memory, shb=shb).status, self.runs()), (1, runs))
         self.assertEqual(self.ends()["many.std"][0], "report")
 
-    def test_where_memory_fails_in_each_pass(self):
-        shb = self.script("hungry", f"""
-cat > {self.folder}/given
-ulimit -v >> {self.folder}/limits
-[ "$(ulimit -v)" -ge 614400 ] && exec {farm.SHB} "$@" < {self.folder}/given
-echo 'out of memory' >&2
-exit 4
-""")
+    def test_the_limit_is_that_of_the_system(self):
+        shb = self.script("limited", f'ulimit -v >> {self.folder}/limits; exec {farm.SHB} "$@"\n')
         self.trace("race.std", RACE)
-        self.assertEqual(self.farm("--memory", "100,200,600", shb=shb).status, 1)
-        self.assertEqual((self.folder / "limits").read_text().split()[:3], ["102400", "204800", "614400"])
-        self.assertEqual(self.ends()["race.std"][0], "report")
-
-    def test_a_pass_that_did_not_suffice_is_not_run_again(self):
-        self.trace("race.std", RACE)
-        shb = self.script("hungry", f'[ "$(ulimit -v)" -ge 614400 ] && exec {farm.SHB} "$@"\necho "out of '
-                                    'memory" >&2\nexit 4\n')
-        self.assertEqual(self.farm("--memory", "100", shb=shb).status, 5)
-        answer = self.farm("--memory", "100,600", "--known", self.known(b"*\t*\n"), shb=shb)
-        self.assertEqual(answer.status, 0)
-        self.assertNotIn("100 MiB", answer.err)
+        self.assertEqual(self.farm("--memory", "100", shb=shb).status, 1)
+        self.assertEqual(set((self.folder / "limits").read_text().split()), {"102400"})
 
     def test_a_refusal_without_words_is_for_memory(self):
         self.trace("bad.std", BAD)
@@ -70,11 +52,6 @@ exit 4
         self.assertIn(b"shb-farm: race.std: the machine's limit of memory is lower than that of the pass\n",
                       ran.stderr)
         self.assertFalse((self.out / "outcomes").exists())
-
-    def test_the_first_pass_has_room_for_a_trace_as_recorded(self):
-        """Address space that was measured for `shb places`, in MiB, and the size of the trace."""
-        for size, measured in ((0, 11), (19, 185), (129, 364), (229, 412), (1001, 1134)):
-            self.assertGreaterEqual(running.memory_for(size * MIB), measured - 64)
 
 
 class Time(farm.Case):
@@ -99,17 +76,6 @@ class Size(farm.Case):
                       "than 1 MiB\n", answer.out)
         self.assertEqual(self.farm("--size", "8").status, 1)
         self.assertEqual(self.ends()["many.std"][0], "report")
-
-    def test_a_full_report_that_is_too_long(self):
-        """Its list has a few lines, and its schedule is as long as the trace."""
-        self.trace("long.std", b"T1|w(y)|q\n" * 200_000 + RACE)
-        self.assertEqual(self.farm("--size", "1").status, 1)
-        self.assertEqual(
-            self.table("places.tsv"), [["1", "unknown", "a.c:1", "b.c:2", "long.std", "its report, or the "
-                                        "text of a packed trace, is longer than 1 MiB", "1", "x", ""]])
-        self.assertEqual(list((self.out / "reports").glob("*.report")), [])
-        self.assertEqual(self.farm("--size", "2").status, 1)
-        self.assertEqual(self.table("places.tsv")[0][5], f"reports/{key_of('long.std')}.report")
 
 
 class Ends(farm.Case):
@@ -140,12 +106,6 @@ class Ends(farm.Case):
         self.assertEqual(self.ends()["race.std"], ("missing", "status 7 some words"))
         (self.folder / "failing.well").touch()
         self.assertEqual(self.farm(shb=shb).status, 1)
-
-    def test_a_killed_run_is_tried_again_in_the_next_pass(self):
-        self.trace("race.std", RACE)
-        shb = self.script("killed",
-                          f'[ -e "$0.once" ] && exec {farm.SHB} "$@"\ntouch "$0.once"\nkill -9 $$\n')
-        self.assertEqual(self.farm("--memory", "256,512", shb=shb).status, 1)
 
     def test_a_trace_that_changes_while_it_is_read_is_missing(self):
         trace = self.trace("race.std", RACE)

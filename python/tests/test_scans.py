@@ -1,10 +1,7 @@
 """Traces that are longer than a report with schedules may be of."""
 
-import json
-
 import farm
 from farm import BAD, RACE
-from shb_farm import running
 from shb_farm.passes import key_of
 
 MANY = 4_194_304        # events that a report with schedules may be of
@@ -12,8 +9,6 @@ END = b"A|end\n"
 # two races at two places, far apart
 FAR = b"T3|w(y)|k.c:1\nT4|r(z)|k.c:2\n" + END * MANY + b"T4|r(y)|k.c:2\nT3|w(z)|k.c:1\n"
 THREADS = b"".join(b"T%d|w(x)|q.c:1\n" % number for number in range(1025))
-NOTE = ("it is longer than a report with schedules may be of: what is kept is that of `shb places --list`, "
-        "without schedules")
 
 
 class LongTraces(farm.Case):
@@ -26,11 +21,7 @@ class LongTraces(farm.Case):
         self.trace("race.std", RACE)
         answer = self.farm()
         self.assertEqual((answer.status, self.ends()["long.std"]),
-                         (1, ("report", f"events {MANY + 4} threads 3 locks 0 variables 2; {NOTE}")))
-        self.assertTrue(answer.out.endswith(f"\n\nreport  long.std  {NOTE}\n"))
-        [invocation] = json.loads((self.out / "places.sarif").read_text())["runs"][0]["invocations"]
-        self.assertEqual(invocation["toolExecutionNotifications"],
-                         [{"level": "note", "message": {"text": f"long.std: {NOTE}"}}])
+                         (1, ("report", f"events {MANY + 4} threads 3 locks 0 variables 2")))
         kept = f"reports/{key_of('long.std')}.report"
         self.assertEqual(self.table("places.tsv"), [["1", "unknown", "a.c:1", "b.c:2", "race.std",
                                                      f"reports/{key_of('race.std')}.report", "1", "x", ""],
@@ -56,20 +47,6 @@ end
 """)
         self.assertEqual(list((self.out / "tmp").iterdir()), [])
 
-    def test_an_outcome_of_a_list_stands(self):
-        self.trace("threads.std", THREADS)
-        shb = self.counting()
-        self.assertEqual(self.farm(shb=shb).status, 1)
-        self.assertEqual(self.ends()["threads.std"],
-                         ("report", f"events 1025 threads 1025 locks 0 variables 1; {NOTE}"))
-        # a list; then for what is kept a report, which is refused, and a list
-        self.assertEqual(self.runs(), 3)
-        self.assertEqual(self.farm(shb=shb).status, 1)
-        self.assertEqual(self.runs(), 0)
-        (self.out / "reports" / f"{key_of('threads.std')}.report").unlink()
-        self.assertEqual(self.farm(shb=shb).status, 1)
-        self.assertEqual(self.runs(), 2)
-
     def test_a_known_place_of_a_long_trace(self):
         self.trace("threads.std", THREADS)
         self.assertEqual(self.farm("--known", self.known(b"q.c:1\tq.c:1\tx\n")).status, 0)
@@ -80,7 +57,3 @@ end
         self.assertEqual(self.farm().status, 5)
         self.assertEqual(self.ends()["long.std"][0], "refused")
         self.assertRegex(self.ends()["long.std"][1], r"^line 1026: the line has no operation field")
-
-    def test_a_text_that_no_report_is_of_begins_with_little_memory(self):
-        self.assertEqual((running.memory_for(running.MOST_TEXT) > 1024,
-                          running.memory_for(running.MOST_TEXT + 1)), (True, running.LIST_MIB))

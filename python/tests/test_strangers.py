@@ -28,8 +28,6 @@ class Packed(farm.Case):
         self.assertEqual({name: end for name, end in self.ends().items() if name != "race.std"},
                          dict.fromkeys(["a.std.xz", "b.std.gz"], ("size", "2")))
         self.assertIn("its report, or the text of a packed trace, is longer than 2 MiB", answer.out)
-        again = self.farm("--size", "2", "--memory", "256,512")
-        self.assertNotIn("traces with 512 MiB", again.err)
         self.assertEqual(list((self.out / "tmp").iterdir()), [])
         self.assertEqual(self.farm("--size", "4").out.splitlines()[0],
                          "traces 3 reports 3 refused 0 missing 0")
@@ -43,14 +41,6 @@ class Packed(farm.Case):
                               ("exec cat /dev/zero", ("size", "1")), ("kill -9 $$", ("failed", "signal 9 "))):
             with open(os.devnull, "rb") as trace, open(self.folder / "text", "wb") as text:
                 self.assertEqual(traces.unpack(["sh", "-c", words], trace, text, work)[:2], wanted)
-
-    def test_a_text_that_needs_more_memory_goes_on_unread(self):
-        """It is analysed once, by the pass that has room for it."""
-        self.trace("a.std.gz", gzip.compress(RACE + b"\n" * (8 << 20)))
-        shb = self.counting()
-        self.assertEqual(self.farm("--memory", "70,2000", shb=shb).status, 1)
-        self.assertEqual(self.ends()["a.std.gz"][0], "report")
-        self.assertEqual(self.runs(), 3)    # a list, a full report, the view's list
 
 
 class Variables(farm.Case):
