@@ -168,6 +168,11 @@ def costs():
     yield Cost("variables that 200 threads write under a lock again and again", STREAM,
                shapes.variables_under_a_lock, 1_500_000,
                unit=MEMORY, growth=SAME)
+    yield Cost("turns at many locations", STREAM, shapes.turns_at_many, 500_000, unit=MEMORY, growth=SAME)
+    yield Cost("long sections at 100 locations", STREAM, shapes.long_sections, 3_000_000, unit=MEMORY,
+               growth=SAME)
+    yield Cost("crowds beside a hot pair", RACES, shapes.crowds_beside_a_hot_pair, 24_000, cut=True,
+               unit=MEMORY)
     yield Cost("another variable has many locations", RACES, shapes.other_locations, 40_000, cut=True)
     yield Cost("1,000 threads with variables of their own", RACES, shapes.other_threads, 40_000, cut=True)
     yield Cost("60 threads that come late", RACES, shapes.late_threads, 40_000, cut=True)

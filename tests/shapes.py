@@ -275,3 +275,21 @@ def races_after_joined(n):
     for k in range(500):
         yield f"M|fork(T{k})|f\nT{k}|w(y)|t\nM|join(T{k})|j\n"
     yield from (f"M|w(x{k})|m\nB|w(x{k})|b\n" for k in range(n // 2))
+
+
+def long_sections(n):
+    """4 threads in turn write a variable under a lock, 20 times a section, at 100 locations."""
+    for k in range(n // 22):
+        thread = f"T{k % 4}"
+        yield f"{thread}|acq(l)|a\n" + "".join(f"{thread}|w(x)|w{(20 * k + i) % 100}\n" for i in range(20))
+        yield f"{thread}|rel(l)|r\n"
+
+
+def crowds_beside_a_hot_pair(n):
+    """Two threads write a variable without order, and 1,000 others write some more, each after a race, under
+    a lock at 4,000 locations: no counts of these fit into what their accesses pay for."""
+    yield from (f"{thread}|w(hot)|{thread}\n" for _ in range(3000) for thread in "AB")
+    for k in range(n // 8000):
+        yield f"A|w(v{k})|a\nB|w(v{k})|b\n"
+        yield from (f"T{i % 1000}|acq(l)|q\nT{i % 1000}|w(v{k})|c{i % 4000}\nT{i % 1000}|rel(l)|r\n"
+                    for i in range(8000))
