@@ -119,10 +119,14 @@ static void move_on(void) {
     if (++at == due_count) end_replay("it ends");
 }
 
-uint32_t due_thread(void) {
-    uint64_t i = at;                   /* another thread may move it on */
+/* Who alone may get the turn that nobody has, or that this holder has not given. */
+uint32_t next_thread(const thread *holder) {
+    uint64_t i = at;                   /* without the guard another thread may move it on */
+    if (holder) i = i < due_count && reaches(holder, due[i]) ? i + 1 : due_count;
     return i < due_count ? thread_of_entry(due[i]) : THREAD_NUMBERS;
 }
+
+uint32_t due_thread(void) { return next_thread(0); }
 
 int steps_to_go(const thread *t) {
     uint64_t i = at;
@@ -131,12 +135,8 @@ int steps_to_go(const thread *t) {
     return steps < INT32_MAX ? (int)steps : INT32_MAX - 1;
 }
 
-/* May t get the turn that nobody has, or that this holder has not given? */
 int may_get_turn(const thread *t, const thread *holder) {
-    uint64_t i = at;                   /* without the guard another thread may move it on */
-    if (!is_replaying || holder == t || i >= due_count) return 1;
-    if (!holder) return thread_of_entry(due[i]) == t->number;
-    return reaches(holder, due[i]) && i + 1 < due_count && thread_of_entry(due[i + 1]) == t->number;
+    return !is_replaying || holder == t || at >= due_count || next_thread(holder) == t->number;
 }
 
 void begin_turn(thread *t) {

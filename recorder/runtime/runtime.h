@@ -176,6 +176,7 @@ void begin_replay(const char *path);   /* before the first turn */
 void end_replay(const char *why);
 /* by the list; the holder, or nobody, has not given it to t */
 int may_get_turn(const thread *t, const thread *holder);
+uint32_t next_thread(const thread *holder);                  /* who alone may, by the number */
 uint32_t due_thread(void);             /* whose turn it is */
 int steps_to_go(const thread *t);      /* in its turn, which has begun */
 int next_is_unusual(const thread *t);  /* moves on past what the list has of this step */

@@ -407,6 +407,20 @@ static void leave_late_replay(const thread *t, uint64_t word, struct lateness *l
     if (next) wake(next);
 }
 
+/* In a replay one thread alone may take the turn over, so that is to be among those that look. */
+static void have_next_look(const thread *holder) {
+    lock_guard();
+    uint32_t number = next_thread(holder);
+    thread *next = number < thread_count ? threads[number] : 0, *first = waiting[0];
+    int is_late = next && next->place >= LOOKERS && next->place < waiters && waiting[next->place] == next;
+    if (is_late) {
+        waiting[first->place = next->place] = first;
+        waiting[next->place = 0] = next;
+    }
+    unlock_guard();
+    if (is_late) wake(next);
+}
+
 /* Among the waiters, until it has the turn. */
 static void wait_for_turn(thread *t) {
     struct watch watch = {.word = atomic_load(&turn)};
@@ -418,7 +432,10 @@ static void wait_for_turn(thread *t) {
         if (!recording || HOLDER(word) == NAME(t)
             || (look && !IS_PATIENT && may_get_turn(t, holder_of(word)) && past_its_access(word, &watch)))
             if (accept(t, word, watch.doubts)) break;
-        if (look && is_replaying) leave_late_replay(t, word, &late);
+        if (look && is_replaying) {
+            have_next_look(holder_of(word));
+            leave_late_replay(t, word, &late);
+        }
         int may_look = t->place < LOOKERS;
         long patience = !may_look ? SLEEP_NS : waiters > 1 ? 10 * PATIENCE_NS : PATIENCE_NS;
         look = syscall(SYS_futex, &t->wakes, FUTEX_WAIT_PRIVATE, wakes, &(struct timespec){0, patience}, 0, 0)

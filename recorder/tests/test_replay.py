@@ -83,6 +83,13 @@ class Replays(recorder.Case):
                 runs[name] = ran.stdout, ran.stderr, (self.folder / f"{name}.turns").read_bytes()[HEADER:]
             self.assertEqual(runs["first"], runs["second"], f"seed {seed}")
 
+    def test_a_turn_that_one_of_many_takes_over(self):
+        """By the list it alone may, and others look at the holder."""
+        program = self.program("among_many.c")
+        for seed in 1, 2:
+            _, turns = self.run_it("first", seed, program)
+            self.assertEqual(self.run_it("second", seed + 10, program, replay="first"), ("", turns))
+
     def test_a_thread_that_sleeps_for_room(self):
         """In a hook, before its record; there it keeps its turn."""
         program, slow = self.program("room.c"), self.folder / "slow.so"
