@@ -81,10 +81,6 @@ def debian(made, programs, commit):
         version=version, author=commit.author, date=commit.date))
     shutil.copy(source / "changelog", documents)
     shutil.copy(source / "copyright", documents)
-    # images for containers leave out what is below share/doc
-    (made / "share/shb").mkdir()
-    (documents / "examples").rename(made / "share/shb/examples")
-    (documents / "examples").symlink_to("../../shb/examples")
     run("gzip", "-9n", documents / "changelog", *(made / MANUAL).iterdir())
     (made / HOME / "libtsan.so").chmod(0o644)
     (top / "DEBIAN").mkdir()

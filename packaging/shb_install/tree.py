@@ -12,10 +12,10 @@ from shb_install.sources import TOP
 # commands (shb-NAME) stand there beside their packages (shb_NAME), as in the checkout; links lead to them
 HOME = "lib/shb"
 DOCUMENTS = ("README.md", "CHANGELOG.md", "SECURITY.md", "CITATION.cff", "recorder/README.md")
-DOCUMENT_FOLDERS = ("docs/", "examples/")
 OF_THE_CHECKOUT = ("docs/GATE.md", "docs/PROOF-NOTES.md")   # they are about files that aren't installed
 BASH, ZSH, MANUAL = "share/bash-completion/completions", "share/zsh/site-functions", "share/man/man1"
-DOCUMENTATION = "share/doc/shb"
+DOCUMENTATION, SHARED = "share/doc/shb", "share/shb"
+OWN = (DOCUMENTATION, SHARED, HOME)     # folders that no other program has
 # the commands with a page, and what it says of each under NAME
 PAGES = {
     "shb": "finds the data races of a trace",
@@ -47,11 +47,15 @@ def make(tree, shb, library, files, version):
                 copy(TOP / name, tree / HOME / name[len("python/"):])
             if name.startswith("recorder/"):
                 copy(TOP / name, recorder.parent / name)
-            if name in DOCUMENTS or name.startswith(DOCUMENT_FOLDERS) and name not in OF_THE_CHECKOUT:
+            if name.startswith("examples/"):
+                copy(TOP / name, tree / SHARED / name)
+            if name in DOCUMENTS or name.startswith("docs/") and name not in OF_THE_CHECKOUT:
                 copy(TOP / name, tree / DOCUMENTATION / name)
         build_recorder(recorder, library, version)
         for source in (recorder / "shb-std", recorder / "module-reader", *recorder.glob("lib/libtsan*")):
             copy(source, tree / HOME / source.name)
+    # images for containers leave out what is below share/doc
+    (tree / DOCUMENTATION / "examples").symlink_to("../../shb/examples")
     (tree / HOME / "VERSION").write_text(version + "\n")
     for command in (tree / HOME).glob("shb-*"):
         (tree / "bin" / command.name).symlink_to(f"../{HOME}/{command.name}")

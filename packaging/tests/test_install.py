@@ -19,10 +19,10 @@ WANTED = ([f"bin/{name}" for name in COMMANDS]
              "lib/shb/libtsan_preinit.o", "lib/shb/shb_farm/job.py",
              "lib/shb/shb_view/page.css", "lib/shb/VERSION", "share/doc/shb/README.md",
              "share/doc/shb/docs/GUARANTEES.md",
-             "share/doc/shb/examples/fork-join.std"])
+             "share/doc/shb/examples", "share/shb/examples/fork-join.std"])
 SHARED = ("bin/shb", "share/man/man1/shb", "share/bash-completion/completions/shb",
           "share/zsh/site-functions/_shb")
-OWN = ("lib/shb/", "share/doc/shb/")
+OWN = ("lib/shb/", "share/doc/shb/", "share/shb/")
 # where a command can do nothing
 STATUSES = {"shb-farm": 4, "shb-fix": 4, "shb-record": 125, "shb-view": 2}
 # modules that python3-minimal lacks
@@ -48,7 +48,7 @@ class Tree(installing.Case):
             self.assertIn(mode, wanted, path)
 
     def test_the_links_of_documents_hold(self):
-        folder = self.prefix / "share/doc/shb"
+        folder = self.prefix / "share"
         links = [(path, name) for path in folder.rglob("*.md")
                  for name in re.findall(r"\]\(([^)#:]+)[)#]", path.read_text())]
         self.assertGreater(len(links), 10)
@@ -89,8 +89,7 @@ class Tree(installing.Case):
         call("gcc", "-fsanitize=thread", "-g", TOP / "examples" / "account.c", "-o", program)
         call(self.folder / "bin/shb-record", "-o", self.folder / "results", program, status=66)
         installing.make(TOP, "uninstall", f"PREFIX={prefix}")
-        self.assertEqual(
-            (list(prefix.iterdir()), list((self.folder / "bin").iterdir())), ([prefix / "bin"], []))
+        self.assertEqual((contents(prefix), contents(self.folder / "bin")), ({"bin": "../bin"}, {}))
 
     def links(self):
         """A folder with links to all commands, as a user may have it."""
@@ -170,7 +169,7 @@ class Tree(installing.Case):
         call(self.prefix / "bin" / "shb-farm", trace.parent, out, env={}, status=1)
         self.assertEqual((out / "unknown.places").read_text(),
                          "a.c:1\tb.c:2\tx\na.c:1\tfar.c:9\tx\nk.c:1\tk.c:2\ty\n")
-        self.assertIn("\nlong.std\treport\t3\tevents 4194310 threads 5 locks 0 variables 2; ",
+        self.assertIn("\nlong.std\treport\t3\tevents 4194310 threads 5 locks 0 variables 2\t",
                       (out / "traces.tsv").read_text())
 
     def test_nothing_names_the_checkout_or_a_folder_that_is_gone(self):
@@ -197,28 +196,33 @@ class Uninstalled(installing.Case):
         compiled.mkdir(exist_ok=True)
         (compiled / "command.cpython-311.pyc").touch()
         self.make("uninstall", f"PREFIX={prefix}")
-        self.assertFalse(prefix.exists())
+        self.assertEqual(contents(prefix), {})
+        self.assertEqual([path.name for path in prefix.rglob("shb*")], [])
         self.make("uninstall", f"PREFIX={prefix}")      # nothing there is no fault
-
-    def test_a_folder_that_is_in_use_stays(self):
-        prefix = self.folder / "not yet" / "there"
-        self.make("install", f"PREFIX={prefix}")
-        (prefix / "mine").touch()
-        self.make("uninstall", f"PREFIX={prefix}")
-        self.assertEqual([str(path.relative_to(prefix)) for path in prefix.rglob("*")], ["mine"])
 
     def test_what_was_there_before_stays(self):
         prefix = self.folder / "prefix"
         for folder in ("bin", "share/man/man5", "share/zsh"):
             (prefix / folder).mkdir(parents=True)
         (prefix / "bin").chmod(0o2775)
-        (prefix / "bin/other").write_text("other")
         (prefix / "share/zsh/mine").write_text("mine")
         before = {str(path) for path in prefix.rglob("*")}
         self.make("install", f"PREFIX={prefix}")
         self.assertEqual((prefix / "bin").stat().st_mode & 0o7777, 0o2775)
         self.make("uninstall", f"PREFIX={prefix}")
-        self.assertEqual({str(path) for path in prefix.rglob("*")}, before)
+        self.assertEqual(before - {str(path) for path in prefix.rglob("*")}, set())
+        self.assertEqual(list(contents(prefix)), ["share/zsh/mine"])
+
+    def test_folders_of_another_program_of_this_name_stay(self):
+        prefix = self.folder / "prefix"
+        for name, text in (("lib/shb/VERSION", "1.0\n"), ("share/shb/theirs", "theirs")):
+            (prefix / name).parent.mkdir(parents=True)
+            (prefix / name).write_text(text)
+            self.make("uninstall", f"PREFIX={prefix}")
+            self.assertIn(f"{(prefix / name).parent} isn't of an installation of shb",
+                          self.refused("install", f"SHB={installing.SHB}", f"PREFIX={prefix}"))
+            self.assertEqual(contents(prefix), {name: text.encode()})
+            shutil.rmtree(prefix)
 
     def test_a_new_installation_takes_the_place_of_an_old_one(self):
         prefix = self.folder / "prefix"
@@ -234,7 +238,7 @@ class Uninstalled(installing.Case):
         self.assertEqual((self.folder / "theirs").read_text(), "")
         self.assertEqual((prefix / "bin/shb").read_bytes(), installing.SHB.read_bytes())
         self.make("uninstall", f"PREFIX={prefix}")
-        self.assertEqual(list(self.folder.iterdir()), [self.folder / "theirs"])
+        self.assertEqual(list(contents(self.folder)), ["theirs"])
 
     def test_an_installation_that_was_stopped_is_taken_away(self):
         prefix = self.folder / "prefix"
@@ -243,7 +247,7 @@ class Uninstalled(installing.Case):
             path.unlink(missing_ok=True)
         shutil.rmtree(prefix / "share/doc")
         self.make("uninstall", f"PREFIX={prefix}")
-        self.assertEqual(list(self.folder.iterdir()), [])
+        self.assertEqual(contents(self.folder), {})
 
     def refused(self, *words):
         """What make says that can't do it, without a traceback."""
@@ -290,4 +294,4 @@ class Uninstalled(installing.Case):
             self.assertIn("[/usr/lib/shb/libtsan.so]",
                           call("readelf", "-d", self.folder / "image/usr/lib/shb/libtsan.so"))
         self.make("uninstall", "PREFIX=/usr", f"DESTDIR={self.folder}/image")
-        self.assertEqual(list((self.folder / "image").iterdir()), [])
+        self.assertEqual(contents(self.folder / "image"), {})
