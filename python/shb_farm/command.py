@@ -11,7 +11,7 @@ import traceback
 
 from shb_common import known
 from shb_common.commands import Parser, number
-from shb_common.parts import ANALYSER, NO_ANALYSER, part
+from shb_common.parts import ANALYSER, NO_ANALYSER
 from shb_common.sources import Sources
 from shb_common.standard import open_standard_files, tell, words_of, write_texts
 from shb_common.words import Refused, counted
@@ -70,8 +70,7 @@ Exit status:
       awk '$1 == "refused" && $2 > 0 { bad = 1 } END { exit bad }' out/facts.tsv
 
 Environment:
-  SHB       the program to run, if not the one that came with this command
-  SHB_VIEW  the same for shb-view, which describes the places
+  SHB  the program to run, if not the one that came with this command
 """
 
 
@@ -118,26 +117,22 @@ def shell_words(text):
         raise argparse.ArgumentTypeError(f"{fault} in {text}") from None
 
 
-def command_of(variable, path):
-    """A command by the variable that names it, else the one of this path, if there is one."""
-    if os.environ.get(variable):
-        found = shutil.which(os.environ[variable])
-        if not found:
-            raise Refused(f"{os.environ[variable]}: no such program")
-        return os.path.realpath(found)
-    return os.path.realpath(path) if os.path.isfile(path) else None
+def analyser():
+    """The program to run: the one that SHB names, else the one that came with this command."""
+    named = os.environ.get("SHB")
+    found = shutil.which(named or ANALYSER)
+    if not found:
+        raise Refused(f"{named}: no such program" if named else NO_ANALYSER(ANALYSER))
+    return os.path.realpath(found)
 
 
 def pass_of(options, room):
-    shb = command_of("SHB", ANALYSER)
-    if not shb:
-        raise Refused(NO_ANALYSER(ANALYSER))
+    shb = analyser()
     with open(shb, "rb") as program:
         checksum = outcomes.checksum_of_file(program)
     traces, out = os.path.realpath(options.traces), os.path.realpath(options.out)
-    view = command_of("SHB_VIEW", part("shb-view"))
-    return passes.Pass(shb, checksum, traces, out, str(room), view or "", options.links,
-                       memory=options.memory, seconds=options.seconds, size=options.size)
+    return passes.Pass(shb, checksum, traces, out, str(room), options.links, memory=options.memory,
+                       seconds=options.seconds, size=options.size)
 
 
 def run_pass(options, work, names, outside=()):

@@ -19,12 +19,11 @@ MOST_OF_NAME = 60               # characters of a trace's name that are in the n
 OTHER = re.compile(r"[^A-Za-z0-9._-]+")
 
 # What a pass needs: the program and its checksum; the folders of the traces, of the outcomes, and for files
-# of this run that aren't whole yet (`room`); the command that says what is known of places, or nothing
-# (`view`); whether links may lead out of the folder of the traces; the MiB of address space (`memory`), the
-# seconds of processor time, and the MiB of a report and of the text of a packed trace (`size`); and the
-# traces to run, below their folder (`names`).
-Pass = collections.namedtuple("Pass", "shb program traces out room view links form memory seconds size names",
-                              defaults=("", False, LIST, 0, 0, 0, []))
+# of this run that aren't whole yet (`room`); whether links may lead out of the folder of the traces; the MiB
+# of address space (`memory`), the seconds of processor time, and the MiB of a report and of the text of a
+# packed trace (`size`); and the traces to run, below their folder (`names`).
+Pass = collections.namedtuple("Pass", "shb program traces out room links form memory seconds size names",
+                              defaults=(False, LIST, 0, 0, 0, []))
 
 
 def write(work):

@@ -5,6 +5,7 @@ import sys
 
 from shb_common import analyser, refused
 from shb_common.files import put_file, temporary_file
+from shb_common.parts import part
 from shb_common.report import BadReport, Report
 from shb_common.variables import variable_of
 from shb_farm import calls, passes, running, traces
@@ -45,8 +46,7 @@ def analysed_text(work, name, text):
 
 def kept(work, name, text, report):
     """Puts the report of a trace in place, with what the view says of it. Returns the report's bytes."""
-    if work.view:
-        put_found(work, text, name)
+    put_found(work, text, name)
     size = os.stat(report).st_size
     put_file(report, passes.kept_path(work.out, name, "report"))
     return size
@@ -71,14 +71,7 @@ def put_found(work, trace, name):
     path = passes.kept_path(work.out, name, "json")
     path.parent.mkdir(parents=True, exist_ok=True)
     beside = ["--stacks", stacks] if stacks else []
-    words = [*started_by(work.view), "--shb", work.shb, "--json", str(path), *beside,
+    words = [sys.executable or "python3", part("shb-view"), "--shb", work.shb, "--json", str(path), *beside,
              f"/dev/fd/{trace.fileno()}"]
     with open(os.devnull, "wb") as out:
         running.run(work, words, trace, out, pass_fds=[trace.fileno()])
-
-
-def started_by(command):
-    """The words that start a command: this Python for one in Python, since there may be no other one."""
-    with open(command, "rb") as file:
-        is_ours = b"python" in file.readline(64)
-    return [sys.executable, command] if is_ours and sys.executable else [command]

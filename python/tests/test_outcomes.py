@@ -199,90 +199,68 @@ class Slurm(farm.Case):
         super().setUp()
         for number in range(3):
             self.trace(f"{number}.std", RACE)
-        # Runs the tasks but the last one, whose number is in the words as --array=0-LAST.
+        # Runs the tasks but the last one, whose number is in the words as --array=0-LAST, and waits for them.
         self.sbatch = f"""
 echo "$@" >> {self.folder}/submitted
+echo 17
 for word; do case $word in --array=0-*) last=${{word#--array=0-}} ;; esac; job=$word; done
 k=0
 while [ $k -lt ${{LOST:-$last}} ]; do SLURM_ARRAY_TASK_ID=$k sh -c "$job"; k=$((k + 1)); done
-echo '17;loop'
 """
 
-    def slurm(self, squeue, sbatch=None, *words, **settings):
+    def environment(self, shb=None, **settings):
+        """One that has the stand-ins first."""
+        return super().environment(shb, PATH=f"{self.folder}/bin:{os.environ['PATH']}", **settings)
+
+    def slurm(self, *words, sbatch=None, **settings):
         self.script("bin/sbatch", sbatch or self.sbatch)
-        self.script("bin/squeue", squeue)
-        self.script("bin/scancel", f"echo $1 >> {self.folder}/cancelled\n")
-        return self.farm("--engine", "slurm", "--memory", "256", *words,
-                         PATH=f"{self.folder}/bin:{os.environ['PATH']}", **settings)
+        return self.farm("--engine", "slurm", "--memory", "256", *words, **settings)
 
     def test_all_tasks_run(self):
         plain = self.farm(out=self.folder / "plain")
-        answer = self.slurm("exit 0\n", None, "--sbatch", "--partition='a b'", LOST=3)
+        answer = self.slurm("--sbatch", "--partition='a b'", LOST=3)
         self.assertEqual((answer.status, answer.out), (1, plain.out))
-        submitted = (self.folder / "submitted").read_text().splitlines()
-        self.assertEqual(len(submitted), 2)         # the lists, and the full report of one trace
-        for wanted in ("--array=0-2 ", "--array=0-0 "):
-            self.assertIn(wanted, submitted[wanted == "--array=0-0 "])
-        for wanted in ("--mem=320 ", "--requeue ", "--partition=a b ", f"--output={self.out}/log/%A_%a "):
-            self.assertIn(wanted, submitted[0])
+        lists, kept = (self.folder / "submitted").read_text().splitlines()
+        self.assertIn("--array=0-0 ", kept)     # the report of one trace
+        for wanted in ("--wait ", "--array=0-2 ", "--mem=320 ", "--partition=a b ",
+                       f"--output={self.out}/log/%A_%a "):
+            self.assertIn(wanted, lists)
 
     def test_further_words(self):
-        self.assertEqual(self.slurm("exit 0\n", None, "--sbatch", "--partition=night", LOST=3).status, 1)
+        self.assertEqual(self.slurm("--sbatch", "--partition=night", LOST=3).status, 1)
         self.assertIn(" --partition=night --wrap ", (self.folder / "submitted").read_text())
-        answer = self.slurm("exit 0\n", None, "--sbatch", "--comment='x")
+        answer = self.slurm("--sbatch", "--comment='x")
         self.assertEqual((answer.status, answer.err.splitlines()[-1]),
                          (3, "shb-farm: argument --sbatch: No closing quotation in --comment='x"))
 
-    def test_a_controller_that_does_not_answer_is_said_once(self):
-        squeue = f"""[ -e {self.folder}/twice ] && exit 0
-[ -e {self.folder}/once ] && touch {self.folder}/twice
-touch {self.folder}/once
-echo 'slurm_load_jobs error: Unable to contact slurm controller' >&2
-exit 1
-"""
-        answer = self.slurm(squeue, LOST=3)
-        said = [line for line in answer.err.splitlines() if "controller" in line]
-        self.assertEqual((answer.status, said), (1, [
-            "shb-farm: Slurm's controller doesn't answer; job 17 is waited for: slurm_load_jobs error: "
-            "Unable to contact slurm controller",
-            "shb-farm: Slurm's controller answers again"]))
+    def test_a_lost_task_is_missing_and_taken_up(self):
+        """Whatever status the array has."""
+        answer = self.slurm(sbatch=self.sbatch + "exit 1\n")
+        self.assertEqual((answer.status, [end[0] for end in self.ends().values()]),
+                         (2, ["report", "report", "missing"]))
+        self.assertEqual(self.slurm(LOST=1).status, 1)
 
-    def test_a_job_that_cannot_be_cancelled_is_said(self):
-        self.script("bin/sbatch", self.sbatch)
-        self.script("bin/squeue", f"touch {self.folder}/asked\necho RUNNING None\n")
-        self.script("bin/scancel", "echo 'scancel: error: Unable to contact slurm controller' >&2; exit 1\n")
-        words = self.words("--engine", "slurm", "--memory", "256")
-        started = subprocess.Popen(words, env=self.environment(
-            PATH=f"{self.folder}/bin:{os.environ['PATH']}"), stdout=subprocess.DEVNULL,
-                                   stderr=subprocess.PIPE)
+    def test_an_array_is_cancelled_by_its_name(self):
+        self.script("bin/scancel", f"echo $1 > {self.folder}/cancelled\n")
+        self.script("bin/sbatch", f"echo $4 > {self.folder}/name\n"
+                                  f"mv {self.folder}/name {self.folder}/submitted\nsleep 600\n")
+        started = subprocess.Popen(self.words("--engine", "slurm", "--memory", "256"), env=self.environment(),
+                                   stdout=subprocess.DEVNULL, stderr=subprocess.DEVNULL)
         deadline = time.monotonic() + farm.SECONDS
-        while not (self.folder / "asked").exists():
+        while not (self.folder / "submitted").exists():
             self.assertLess(time.monotonic(), deadline)
             time.sleep(0.02)
         started.terminate()
-        said = started.communicate(timeout=farm.SECONDS)[1].decode()
-        self.assertEqual(started.returncode, 128 + signal.SIGTERM)
-        self.assertIn("shb-farm: job 17 may go on: scancel ended with status 1: scancel: error: Unable to "
-                      "contact slurm controller\n", said)
-
-    def test_a_held_task_is_given_up_and_missing(self):
-        held = ("[ \"$1 $2 $3\" = '--noheader --jobs=17 --format=%T %r' ] && echo 'PENDING launch failed "
-                "requeued held'\n")
-        answer = self.slurm(held)
-        self.assertEqual(answer.status, 2)
-        self.assertEqual([end[0] for end in self.ends().values()], ["report", "report", "missing"])
-        self.assertEqual(set((self.folder / "cancelled").read_text().split()), {"17"})
-        self.assertEqual(self.slurm("exit 0\n", LOST=1).status, 1)
-
-    def test_an_array_that_is_forgotten_has_ended(self):
-        self.assertEqual(self.slurm("echo 'slurm_load_jobs error: Invalid job id specified' >&2; exit 1\n",
-                                    LOST=3).status, 1)
+        self.assertEqual(started.wait(farm.SECONDS), 128 + signal.SIGTERM)
+        name = (self.folder / "submitted").read_text().replace("--job-name=", "--name=")
+        self.assertRegex(name, r"^--name=shb-farm-run-\w+\n$")
+        self.assertEqual((self.folder / "cancelled").read_text(), name)
 
     def test_a_refusal_ends_the_farm_at_once(self):
-        answer = self.slurm("exit 0\n",
-                            f"echo >> {self.folder}/asked; echo 'no such partition' >&2; exit 1\n")
-        self.assertEqual((answer.status, answer.out, answer.err),
-                         (4, "", "shb-farm: sbatch ended with status 1: no such partition\n"))
+        answer = self.slurm(sbatch=f"echo >> {self.folder}/asked; echo 'no such partition' >&2; exit 1\n")
+        self.assertEqual((answer.status, answer.out), (4, ""))
+        self.assertEqual(answer.err.splitlines()[1:], [
+            "no such partition", "shb-farm: sbatch took no job: it ended with status 1"])
         self.assertEqual((self.folder / "asked").read_text(), "\n")
 
 

@@ -195,23 +195,9 @@ class Facts(farm.Case):
 
     def test_a_view_that_fails_is_left_out(self):
         self.trace("race.std", RACE)
-        answer = self.farm(SHB_VIEW=self.script("view", "echo broken >&2; exit 2\n"))
+        self.run_alone()
+        farm.put_program("/dev/stdin", self.command.with_name("shb-view"), b"raise SystemExit(2)\n")
+        answer = self.farm()
         self.assertEqual((answer.status, [row[5] for row in self.table("places.tsv")]),
                          (1, [f"reports/{passes.key_of('race.std')}.report"]))
         self.assertNotIn("facts", json.loads((self.out / "places.json").read_text())["places"][0])
-
-    def test_many_traces_say_how_far_they_are(self):
-        """Where standard error is no terminal, at some tenths; here a run waits until it has been said."""
-        for number in range(100):
-            self.trace(f"{number}.std", CLEAN)
-        go = self.folder / "go"
-        shb = self.script("waiting", f"while [ $(ls {self.out}/outcomes | wc -l) -ge 60 ] && [ ! -e {go} ]; "
-                                     f"do sleep 0.05; done\nexec {farm.SHB} \"$@\"\n")
-        (self.out / "outcomes").mkdir(parents=True)
-        started = subprocess.Popen(self.words("--jobs", "1"), env=self.environment(shb),
-                                   stdout=subprocess.DEVNULL, stderr=subprocess.PIPE)
-        for line in started.stderr:
-            if line.endswith(b" of 100 traces done\n"):
-                go.touch()
-        started.stderr.close()
-        self.assertEqual((started.wait(), go.exists()), (0, True))
