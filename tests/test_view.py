@@ -53,7 +53,7 @@ FORK_JOIN_ALL = FORK_JOIN + """
      2  main    fork(worker)  start.c:5
      3  worker  r(config)     worker.c:2
 
-Each race that is shown has a schedule: `JUDGE` finds them good.
+Verified: every race on the page has a schedule that `shb check` accepts. Check again: `JUDGE`.
 """
 
 # Three pairs of lines with a place in each order: two of them share the variable `total`.
@@ -127,7 +127,8 @@ class Text(program.Case):
                                      UNLOCKED_READ, []), ("account", ACCOUNT, []), ("places", PLACES, [])):
             with self.subTest(name):
                 trace = f"examples/{name}.std"
-                said = said.replace("JUDGE", f"shb places --variables {trace} | shb check {trace}")
+                path = EXAMPLES.parent / trace
+                said = said.replace("JUDGE", f"shb places --variables {path} | shb check {path}")
                 self.expect(run([*options, trace], cwd=EXAMPLES.parent), 0, said.encode())
 
     def test_no_races(self):
