@@ -71,9 +71,9 @@ class Reader:
                 is_local = name.startswith("stack.")
                 for count, thread, locks in accesses_of(
                     list(zip(sums[::3], map(int, sums[1::3]), sums[2::3]))):
-                    yield Access(None, thread, "r" if word == "r" else "w", name, location,
+                    yield Access(None, thread, "r" if word in "rlR" else "w", name, location,
                                  *(frozenset(lasting.get(lock, lock) for lock in its) for its in locks),
-                                 word == "f", word == "a", local if is_local else lasting.get(name, ""),
+                                 word == "f", word in "al", local if is_local else lasting.get(name, ""),
                                  count)
 
     def read_stacks(self, text):
@@ -512,8 +512,8 @@ class Group:
         """A lock has its own name, but where variables have different ones: numbers of blocks and elements
         are `*` then. It is that lock of its kind which most accesses of the variable hold."""
         of, name = self.fact["locks"], self.fact["name"]
-        if not self.reader.private.isdisjoint(of.values()):
-            yield "one thread alone uses the lock"
+        if not all(map(self.may_be_rule, of.values())):
+            yield "the lock is no rule"
         if name != (min(of.values()) if len(set(of.values())) < 2 else NUMBERS.sub("*", min(of.values()))):
             yield f"{name} isn't the name of {of}"
         for variable in of if len(set(of.values())) > 1 else ():
@@ -525,6 +525,11 @@ class Group:
             if (any(count > held[of[variable]] for lock, count in held.items()
                     if NUMBERS.sub("*", lock) == name) and not self.is_merged()):
                 yield f"{of[variable]} isn't the lock that most accesses of {variable} hold"
+
+    def may_be_rule(self, lock):
+        """Whether a lock isn't one thread's alone, nor in a block while a variable is global."""
+        has_global = any("#" not in name and not name.startswith("stack.") for name in self.variables)
+        return lock not in self.reader.private and not (has_global and "#" in lock)
 
     def is_merged(self):
         """Whether several events may be one access, so that counts differ."""
@@ -605,7 +610,7 @@ class Group:
         accesses, and all or none of them hold these."""
         kinds = collections.defaultdict(lambda: collections.defaultdict(set))
         for access in self.all if are_kept else self.used():
-            for lock in (access.held | access.shared) - self.reader.private:
+            for lock in filter(self.may_be_rule, access.held | access.shared):
                 if are_kept and lock.startswith("0x"):
                     continue
                 kinds[re.sub(r"(#|\[)[0-9]+", r"\1", lock)][access.variable].add(lock)
@@ -635,7 +640,7 @@ class Group:
                      for access in self.used(line)]
             found = [sum(count for has, count in holds if has), sum(count for _, count in holds)]
             if (len({has for has, _ in holds}) != 2 or line not in self.lines or not self.is_merged()
-                and found != [some, all]):
+                and (found != [some, all] or 2 * some < all)):
                 yield f"{line} holds it at {found}"
             if not any(access.word == "w" for access in self.used(line)):
                 yield f"{line} only reads"
@@ -643,14 +648,16 @@ class Group:
             yield "no line"
 
     def has_sometimes(self):
-        """Of one variable: a racing line that writes and holds some lock at some accesses."""
-        return len(self.variables) == 1 and any(
-            len({self.has(access, lock) for access in self.used(line)}) == 2
+        """Of one variable: a racing line that writes and holds some lock at half of its accesses or more."""
+        def counts(line, lock):
+            holds = [(self.has(access, lock), access.count) for access in self.used(line)]
+            return sum(count for has, count in holds if has), sum(count for _, count in holds)
+        return len(self.variables) == 1 and not self.is_merged() and any(
+            counts(line, lock)[0] < counts(line, lock)[1] <= 2 * counts(line, lock)[0]
             and any(access.word == "w" for access in self.used(line))
             and not all(any(re.sub("[0-9]", "", other) == re.sub("[0-9]", "", lock)
                             for other in self.locks(access)) for access in self.used(line))
-            for line in self.lines
-            for lock in self.held_at(line) - self.reader.private)
+            for line in self.lines for lock in filter(self.may_be_rule, self.held_at(line)))
 
     def held_at(self, line):
         return set().union(*(access.held | access.shared for access in self.used(line)))

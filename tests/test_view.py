@@ -26,7 +26,7 @@ fork-join.std: 1 place with races, in 1 group (7 events, 2 threads, 0 locks, 2 v
 
 1. count: start.c:6 and worker.c:3 write without a lock (1 place)
    In this trace no lock is held at any access; 2 threads write, at start.c:6 and worker.c:3.
-   Remedy: make it atomic if it is a flag or a counter; else hold one lock at start.c:6 and worker.c:3.
+   Remedy: hold one lock at start.c:6 and worker.c:3.
    start.c:6: 1 write by main
      no lock held
      races with worker.c:3
@@ -46,7 +46,7 @@ FORK_JOIN_ALL = FORK_JOIN + """
      write by main at start.c:6 (event 5)
        no lock held
      In this trace no lock is held at any access; 2 threads write, at start.c:6 and worker.c:3.
-     Remedy: make it atomic if it is a flag or a counter; else hold one lock at start.c:6 and worker.c:3.
+     Remedy: hold one lock at start.c:6 and worker.c:3.
      `shb check` found the schedule of race 1 good: after its 3 events both accesses can execute next.
    Before the accesses:
      1  main    w(config)     start.c:4
@@ -77,7 +77,7 @@ unlocked-read.std: 3 places with races, in 2 groups (18 events, 3 threads, 1 loc
 
 2. closed: main.c:12 writes, queue.c:29 reads without a lock (2 places)
    In this trace no lock is held at any access; one thread writes, at main.c:12.
-   Remedy: make it atomic if it is a flag or a counter; else hold one lock at main.c:12 and queue.c:29.
+   Remedy: hold one lock at main.c:12 and queue.c:29.
    queue.c:29 read what main.c:12 wrote. This racy read may hide other races: fix it and run again.
    main.c:12: 1 write by main
      no lock held
@@ -108,7 +108,7 @@ places.std: 3 places with races, in 1 group (4 events, 4 threads, 0 locks, 1 var
 
 1. total: Counter.java:12 writes, Report.java:30 reads without a lock (3 places)
    In this trace no lock is held at any access; 3 threads write, at Counter.java:12.
-   Remedy: make it atomic if it is a flag or a counter; else hold one lock at Counter.java:12 and \
+   Remedy: hold one lock at Counter.java:12 and \
 Report.java:30.
    Report.java:30 read what Counter.java:12 wrote. This racy read may hide other races: fix it and run again.
    Counter.java:12: 3 writes by T1, T2 and T4

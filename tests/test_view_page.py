@@ -239,7 +239,7 @@ class Pages(program.Case):
                                      for name in ("page.std", "uses", "stacks", "page.html"))
         trace.write_bytes((EXAMPLES / "places.std").read_bytes())
         used = re.findall(rb"(.*)\|([rw])\((.*)\)\|(.*)\n", trace.read_bytes())
-        uses.write_bytes(b"shb-uses 2\n"
+        uses.write_bytes(b"shb-uses 3\n"
                          + b"".join(b"use\t%b\t%b\t\t%b\tby\t1\t%b\tbare\t1\t0\n"
                                     b"event\t%d\t%d\n" % (word, name, at, thread, number, number)
                                     for number, (thread, word, name, at) in enumerate(used, 1))
@@ -259,7 +259,7 @@ class Pages(program.Case):
         for location, thread, name in ((5, "B", "x"), (7, "A", "x"), (9, "A", "z"), (11, "B", "z")):
             uses.append(f"use\tw\t{name}\t\tf.c:{location}\tby\t1\t{thread}\tbare\t1\t0")
         trace = self.file("".join(f"{line}\n" for line in lines).encode(), "page.std")
-        its = self.file("".join(f"{line}\n" for line in ["shb-uses 2", *uses, "events\t11"]).encode(), "uses")
+        its = self.file("".join(f"{line}\n" for line in ["shb-uses 3", *uses, "events\t11"]).encode(), "uses")
         stacks = self.file(b"shb-stacks 1 %020d\n" % 11 + bytes(44), "stacks")
         found = view_of_run(recorded_run(trace, its, stacks), asked(), QUIET)
         shown = {section.window.accesses: (section.window.before, section.window.edges,

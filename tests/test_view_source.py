@@ -203,6 +203,17 @@ class Shown(program.Case):
             "   a.c:3: 1 read by B", "     | static int total;", "     no lock held",
             "     races with a.c:8"])
 
+    def test_a_result_that_all_threads_share(self):
+        """Of a library's function that has another form, with a result for each caller."""
+        self.file(b"one();\nputs(ctime(&now));\n", "b.c")
+        os.utime(self.folder / "b.c", (1000, 1000))
+        for name, at, remedy in (("libc.so.6:result", 2, "call ctime_r at b.c:2."),
+                                 ("libc.so.6:result", 1, "hold one lock at b.c:1."),
+                                 ("result", 2, "hold one lock at b.c:2.")):
+            trace = self.file("".join(f"{it}|w({name})|b.c:{at}\n" for it in "AB").encode())
+            out = run_here(["--source", self.folder, trace])[1]
+            self.assertIn(f"   Remedy: {remedy}\n", out)
+
     def test_page_by_hand(self):
         path = self.folder / "page.html"
         self.shown("--html", path)

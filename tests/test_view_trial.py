@@ -26,9 +26,10 @@ EARLY = ["main|fork(A)|f.c:1", "A|w(x)|f.c:6", "A|w(x)|f.c:6", "main|r(x)|f.c:2"
 
 
 class Trials(program.Case):
-    def group(self, lines, beside=(), more=(), stacks=(), held=()):
-        """The only group of a run with these lines, which are the page's trace too; and its remedy. Pairs in
-        `held` are locations with the lock that is held there."""
+    def group(self, lines, beside=(), more=(), stacks=(), held=(), words={}):
+        """The only group of a run with these lines, which are the page's trace too; and its remedy. By
+        locations `held` has the lock that is held there, or sums, and `words` the words of uses that
+        aren't r or w."""
         paths = {name: self.folder / f"page.{name}" for name in ("std", "stacks", "uses")}
         trace = "".join(f"{line}\n" for line in lines).encode()
         paths["std"].write_bytes(trace)
@@ -37,15 +38,17 @@ class Trials(program.Case):
         stacks += "".join(f"{line}\n" for line in beside).encode()
         paths["stacks"].write_bytes(stacks)
         counts = collections.Counter(tuple(re.split(r"[|()]+", line)) for line in lines)
-        locks = {at: f"held\t{{0}}\t0\tunder\t{{0}}\t{lock}" for at, lock in held}
-        kinds = [f"use\t{word}\t{name}\t\t{at}\tby\t{count}\t{thread}\t"
+        locks = {at: lock if "\t" in lock else f"held\t{{0}}\t0\tunder\t{{0}}\t{lock}"
+                 for at, lock in dict(held).items()}
+        kinds = [f"use\t{words.get(at, word)}\t{name}\t\t{at}\tby\t{count}\t{thread}\t"
                  + locks.get(at, "bare\t{0}\t0").format(count)
                  for (thread, word, name, at), count in counts.items() if word in "rw"]
         events = [f"event\t{number}\t{number}" for number in range(1, len(lines) + 1)]
-        whole = ["shb-uses 2", *kinds, *events, *more, f"events\t{len(lines)}"]
+        whole = ["shb-uses 3", *kinds, *events, *more, f"events\t{len(lines)}"]
         paths["uses"].write_text("".join(f"{line}\n" for line in whole))
         run = recorded_run(*(paths[name] for name in ("std", "uses", "stacks")))
-        document = result.document(view_of_run(run, asked()._replace(has_windows=False), QUIET))
+        self.view = view_of_run(run, asked()._replace(has_windows=False), QUIET)
+        document = result.document(self.view)
         [group], [remedy] = document["groups"], {place["remedy"] for place in document["places"]}
         self.reader = facts_reader.Reader(trace, stacks, paths["uses"].read_bytes())
         self.assertEqual(self.faults(group), [])
@@ -113,6 +116,40 @@ class Trials(program.Case):
                               ([it.replace("(x)", "(x._M_finish)") for it in both], lock)):
             self.assertEqual(self.group([*begin, *lines])[1], remedy)
 
+    def test_what_cannot_be_atomic(self):
+        """What is accessed by more than eight bytes at once."""
+        lines = [*HANDED[:2], "A|w(x)|f.c:2", "B|r(x)|f.c:6"]
+        lock = "hold one lock at f.c:2 and f.c:6."
+        flag = f"make it atomic if it is a flag or a counter; else {lock}"
+        for words, remedy in (({}, flag), ({"f.c:2": "W"}, lock), ({"f.c:6": "R"}, lock)):
+            self.assertEqual(self.group(lines, words=words)[1], remedy)
+
+    def test_a_plain_write_beside_an_atomic_read(self):
+        lines = [*HANDED[:2], "A|w(x)|f.c:2", "B|r(x)|f.c:6"]
+        for word, remedy in (("w", "access it atomically at f.c:2 too."),
+                             ("W", "access its members one by one, atomically, at f.c:2, or hold one lock at "
+                                   "f.c:2 and f.c:6.")):
+            group, said = self.group(lines, words={"f.c:6": "l", "f.c:2": word})
+            self.assertEqual((group["form"], group["atomic"], group["plain"], said),
+                             ("plain", ["f.c:6"], ["f.c:2"], remedy))
+            kinds = self.view.kinds
+            self.assertEqual([kinds.of(3, b"w", b"x"), kinds.of(4, b"r", b"x")], [b"w", b"l"])
+
+    def test_a_lock_that_is_no_rule(self):
+        """Of some block, for a global variable; or held at less than half of a line's accesses."""
+        def lines(lock, *counts):
+            begin = [f"main|fork({thread})|f.c:1" for thread in "AB"]
+            held = [f"A|acq({lock})|f.c:2", "A|w(x)|f.c:3", f"A|rel({lock})|f.c:4"]
+            return [*begin, *held * counts[0], *["A|w(x)|f.c:3"] * counts[1], "B|r(x)|f.c:6"]
+
+        def form(lock, *counts):
+            some = "\t".join(["held", str(counts[0]), "0", "under", str(counts[0]), lock,
+                              *["bare", str(counts[1]), "0"] * bool(counts[1])])
+            return self.group(lines(lock, *counts), held={"f.c:3": some})[0]["form"]
+
+        self.assertEqual([form("m", 1, 0), form("pool.c:1#2+8", 1, 0)], ["without", "apart"])
+        self.assertEqual([form("m", 1, 1), form("m", 1, 2)], ["sometimes", "apart"])
+
     def test_a_function_that_is_called(self):
         """What it does isn't moved out of it."""
         beside = ["frame main\tf.c:1", "frame set\tf.c:2", "stack 1 0 1", "stack 2 1 2"]
@@ -146,7 +183,7 @@ class Trials(program.Case):
         said = {"form": "without", "lines": ["f.c:6"], "sometimes": [], "holding": ["f.c:3"],
                 "scope": "writes"}
         self.assertEqual(self.faults(group, **said, locks={"x": lock}, name=lock, instead={}),
-                         ["without of ['x']: one thread alone uses the lock"])
+                         ["without of ['x']: the lock is no rule"])
 
     def test_a_local_that_is_gone(self):
         lines = ["main|fork(A)|f.c:1", "main|w(stack.main-0x10)|f.c:4", "A|r(stack.main-0x10)|f.c:2"]

@@ -8,17 +8,18 @@ from shb_common.files import open_regular
 from shb_common.stacks import whole
 from shb_common.words import printable
 
-BEGIN = b"shb-uses 2\n"
-OTHER = "is of another version of shb: its first line isn't `shb-uses 2`"
-WORDS = b"r", b"w", b"a", b"f"
+BEGIN = b"shb-uses 3\n"
+OTHER = "is of another version of shb: its first line isn't `shb-uses 3`"
+WORDS = b"r", b"w", b"l", b"a", b"f", b"R", b"W"
 OF_STACKS = b"bare", b"held", b"many"
 KINDS = b"by", b"under", b"reading", *OF_STACKS
 
 
-class Use(collections.namedtuple("Use", "word variable local location sums")):
-    """The accesses of a variable at a location in one way: `word` is r, w, a (written atomically) or f
-    (freed); `local` the local that a variable on a stack was then, or nothing. `sums` has by kind how many
-    there are of each thread, lock or stack (by its number)."""
+class Use(collections.namedtuple("Use", "word variable local location sums is_wide")):
+    """The accesses of a variable at a location in one way: `word` is r, w, l (loaded atomically), a (written
+    atomically) or f (freed); `local` the local that a variable on a stack was then, or nothing. `sums` has
+    by kind how many there are of each thread, lock or stack (by its number). `is_wide`: whether they are of
+    more than eight bytes, or None if that isn't known."""
 
     __slots__ = ()
 
@@ -61,7 +62,7 @@ class Uses:
             its = {kind: {} for kind in KINDS}
             for kind, count, of in zip(sums[::3], map(int, counts), sums[2::3]):
                 its[kind][int(of) if kind in OF_STACKS else of] = count
-            self.uses.append(Use(word, variable, local, location, its))
+            self.uses.append(Use(word.lower(), variable, local, location, its, word.isupper()))
         elif kind == b"event":
             in_page, in_run = map(whole, fields[1:])
             self.events[in_run], self.in_run[in_page] = in_page, in_run

@@ -9,7 +9,7 @@ import re
 from shb_common.uses import OF_STACKS
 from shb_common.variables import without_end
 from shb_common.words import Refused
-from shb_view.facts import HOW_HELD, Used, add_to, used_in
+from shb_view.facts import HOW_HELD, READS, Used, add_to, used_in
 from shb_view.groups import name_parts
 from shb_view.held import Held, Operations, called
 from shb_view.trace import CHANGED, OPENS
@@ -46,11 +46,14 @@ class Kinds:
         self.gathered, self.stacks, self.locks = gathered, stacks, stacks.lasting_locals
         self.atomics, self.locals = gathered.atomics, gathered.locals
         self.racing = set(map(self.in_trace, gathered.events))
+        self.loads = set()  # variables, each with a location that only loads it atomically
 
     def of(self, number, word, variable):
         """The word of `words.KINDS` for an event."""
         if word != b"w":
-            return word
+            access = self.gathered.accesses.get(number)
+            is_load = access and (self.in_trace(variable), access.location) in self.loads
+            return b"l" if is_load else word
         return b"a" if variable in self.atomics else b"f" if self.stacks.free_of(number) is not None else word
 
     def in_trace(self, variable):
@@ -247,9 +250,12 @@ class Counting:
         """Takes the uses of the whole run. A free is one of all variables of its block: those of one
         of them count."""
         kinds, freed = self.access_kinds, {}
+        loads, reads = ({(use.variable, use.location) for use in self.uses if use.word == word}
+                        for word in READS)
+        kinds.loads = loads - reads
         groups = {kinds.in_trace(variable): group for variable, group in self.groups.items()}
         for use in self.uses:
-            word, variable, local, location, sums = use
+            word, variable, local, location, sums, _ = use
             group = groups.get(variable)
             if group is None or kinds.locals.get(variable, local) != local and variable.startswith(b"stack."):
                 continue

@@ -21,6 +21,7 @@ STEP = "test and set it in one step, as by an atomic exchange, or "
 OF_LIBRARY = rb"(?:^|[.:])_[_A-Z]|\._vptr|\.so(?:\.[0-9]+)*:"  # what the program can't make atomic
 DIGITS = rb"[0-9]+"
 HOW_HELD = b"under", b"reading"  # how an access holds locks
+READS = b"l", b"r"
 NUMBERS = rb"(?<=#)[0-9]+|(?<=\[)[0-9]+(?=\])"  # of a block, and of an element
 
 
@@ -42,6 +43,7 @@ class Site:
     def __init__(self, location):
         self.location, self.total, self.variables = location, 0, set()
         self.accesses = collections.defaultdict(int)  # by word
+        self.widths = set()  # of its accesses, as `Use.is_wide`
         self.threads = collections.defaultdict(int)
         self.writers = set()  # threads
         self.locks = collections.defaultdict(int)  # how many accesses hold each lock, but not for reading
@@ -53,10 +55,13 @@ class Site:
         self.later = set()  # those of these whose access came later in a race that was read
 
     def reads(self):
-        return self.accesses[b"r"] > 0
+        return self.accesses[b"r"] + self.accesses[b"l"] > 0
 
     def writes(self):
-        return self.total > self.accesses[b"r"]
+        return self.total > self.accesses[b"r"] + self.accesses[b"l"]
+
+    def is_atomic(self):
+        return self.accesses[b"a"] + self.accesses[b"l"] > 0
 
     @functools.cached_property
     def guards(self):
@@ -91,10 +96,11 @@ class Site:
         self.variables.add(use.variable)
         self.total += count
         self.accesses[use.word] += count
+        self.widths.add(use.is_wide)
         add_to(self.threads, by, {})
         add_to(self.locks, use.sums[b"under"], names)
         add_to(self.reading, use.sums[b"reading"], names)
-        if use.word != b"r":
+        if use.word not in READS:
             self.writers.update(by)
             add_to(self.wrong, use.sums[b"reading"], names)
         self.bare += sum(use.sums[b"bare"].values())
@@ -183,7 +189,7 @@ def used_in(counts):
             shared = read_lock(lock)
             sums[b"reading" if shared else b"under"][shared or lock] = count
         if count:
-            found.add(Use(word, variable, b"", location, sums))
+            found.add(Use(word, variable, b"", location, sums, None))
     return found
 
 
@@ -206,6 +212,7 @@ class Locks:
         """`private` are locks on stacks that one thread alone uses: none of these is told. `name` gives a
         variable as the program has it."""
         self.own, self.private, self.name = {}, private, name
+        self.has_global = any(b"#" not in it and not it.startswith(b"stack.") for it in used.variables)
         of_frees = [*itertools.chain(*used.frees.values())]
         self.locks = {variable: set().union(*(use.sums[how] for use in (*its, *of_frees) for how in HOW_HELD))
                       for variable, its in used.variables.items()}
@@ -217,6 +224,10 @@ class Locks:
         for name, own in self.own.items():
             for variable, lock in own.items() if len(set(own.values())) > 1 else ():
                 self.named[variable][lock] = Own(name)
+
+    def may_be_rule(self, lock):
+        """Not a lock that one thread alone uses, nor that of some block for a global variable."""
+        return lock not in self.private and not (self.has_global and b"#" in lock)
 
     def of(self, name):
         """By variable: the lock of this name."""
@@ -356,16 +367,18 @@ def freed(racing, whole):
 
 def not_atomic(racing, whole):
     """Racing lines that aren't atomic, where others are."""
-    atomic = [site for site in racing if site.accesses[b"a"]]
-    plain = [site for site in racing if not site.accesses[b"a"]]
+    atomic = [site for site in racing if site.is_atomic()]
+    plain = [site for site in racing if not site.is_atomic()]
     if not atomic or not plain:
         return None
-    verb, write = "is" if len(plain) == 1 else "are", "writes" if len(atomic) == 1 else "write"
-    sentence = [f"In this {whole} ", *lines_of(atomic), f" {write} atomically, and ", *lines_of(plain),
-                f" {verb} not atomic."]
+    verb = "is" if len(plain) == 1 else "are"
+    sentence = [f"In this {whole} ", *lines_of(atomic), f" {verb_of(atomic)} atomically, and ",
+                *lines_of(plain), f" {verb} not atomic."]
     said = {"atomic": names_of(atomic), "plain": names_of(plain)}
-    return Fact("plain", said, [*lines_of(plain), f" {verb} not atomic"], [sentence],
-                ["access it atomically at ", *lines_of(plain), " too."])
+    wide = [site for site in plain if True in site.widths]
+    remedy = (["access its members one by one, atomically, at ", *lines_of(wide), ", or hold one lock at ",
+               *lines_of(racing), "."] if wide else ["access it atomically at ", *lines_of(plain), " too."])
+    return Fact("plain", said, [*lines_of(plain), f" {verb} not atomic"], [sentence], remedy)
 
 
 def uncounted(sites, whole):
@@ -384,7 +397,8 @@ def by_weight(sites, locks):
         holding.update(site.held)
     def weight(lock):
         return -holding[lock], -guarded[lock], not isinstance(lock, Own), lock
-    return sorted(guarded.keys() - locks.private, key=weight), holding.keys() - locks.private
+    told = set(filter(locks.may_be_rule, guarded))
+    return sorted(told, key=weight), holding.keys() & told
 
 
 def lock_fact(sites, racing, locks, whole):
@@ -483,9 +497,9 @@ def verb_of(sites):
 
 
 def sometimes(sites, racing, lock, locks, whole):
-    """A lock that racing lines hold at some accesses, and no line at each."""
-    some = [site for site in racing if site.lacks(lock) and site.guarded(lock) and site.writes()
-            and not holds_another(site, lock)]
+    """A lock that racing lines hold at half of their accesses or more, and no line at each."""
+    some = [site for site in racing if site.lacks(lock) and site.guarded(lock) * 2 >= site.total
+            and site.writes() and not holds_another(site, lock)]
     if not some:
         return None
     counts = [[f"{site.guarded(lock):,} of {counted(site.total, 'access', 'accesses')} at ",
@@ -552,12 +566,12 @@ def no_lock(sites, racing, whole):
     names = set().union(*(site.variables for site in racing))
     kinds = {alike(name) for name in names}  # a member of several objects is one, elements of an array aren't
     is_one = (len(kinds) == 1 and (len(names) == 1 or not min(kinds).endswith((b"]", b"*")))
-              and not re.search(OF_LIBRARY, min(kinds)))
+              and not re.search(OF_LIBRARY, min(kinds)) and all(site.widths == {False} for site in racing))
     tests_it = any(len(site.writers.intersection(reader.threads)) > 1 and not site.reads()
                    and by_numbers(reader.location or b"") < by_numbers(site.location or b"")
                    for site in writing for reader in readers)
     remedy = [(STEP if tests_it else FLAG) * is_one + "hold one lock at ", *lines_of(racing), "."]
-    if is_one and any(site.accesses[b"a"] for site in sites):
+    if is_one and any(map(Site.is_atomic, sites)):
         remedy = ["make each access at ", *lines_of(racing),
                   " atomic; initialize it before creating threads."]
     tag = [*lines_of(writing), f" {verb}", *also, " without a lock"]

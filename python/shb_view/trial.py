@@ -9,7 +9,7 @@ from shb_common.report import Access, event_of
 from shb_common.variables import without_end
 from shb_common.words import Refused
 from shb_view.analyser import Analyser
-from shb_view.facts import verb_of
+from shb_view.facts import READS, verb_of
 from shb_view.held import called
 from shb_view.trace import OPENS, line_of
 from shb_view.words import Code, listed, place
@@ -48,7 +48,7 @@ def moves_of(found, counting):
     if each has its own: by that a thread may hand on what the line still uses."""
     locks, names = counting.access_kinds.locks, found.group.names
     for site in found.sites:
-        if not site.partners or site.accesses[b"f"] or site.accesses[b"a"] or site.bare < site.total:
+        if not site.partners or site.accesses[b"f"] or site.is_atomic() or site.bare < site.total:
             continue
         follows = {(word, name): counting.follows.get((word, name, site.location), {})
                    for name in names for word in (b"r", b"w")}
@@ -129,7 +129,7 @@ def uses_once(used, thread, may_write=True):
     """Whether a thread uses each variable once at most."""
     own = [[use for use in its if thread in use.sums[b"by"]] for its in used.variables.values()]
     return (all(sum(use.sums[b"by"][thread] for use in its) <= 1 for its in own)
-            and (may_write or all(use.word == b"r" for its in own for use in its)))
+            and (may_write or all(use.word in READS for its in own for use in its)))
 
 
 def last_join(others, creator, ends, events):

@@ -9,8 +9,8 @@ from shb_common.words import counted
 from shb_view.held import read_lock
 from shb_view.names import by_numbers, short
 
-KINDS = {b"r": "read", b"w": "write", b"a": "atomic write", b"f": "free"}
-VERBS = {b"r": "reads", b"w": "writes", b"a": "writes atomically", b"f": "frees"}
+KINDS = {b"r": "read", b"l": "atomic read", b"w": "write", b"a": "atomic write", b"f": "free"}
+VERBS = {b"r": "reads", b"l": "reads atomically", b"w": "writes", b"a": "writes atomically", b"f": "frees"}
 MOST_DETAILED = 200  # groups that are shown whole; of further ones the headline, the facts and the places are
 MOST_SITES = 20  # lines that are shown of a group
 # that are named at a line; MOST_SOME are held at some accesses

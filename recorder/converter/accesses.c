@@ -288,7 +288,10 @@ static inline void piece_events(const entry *e, const use *u, u32 number, read_e
 }
 
 static char word_of(const entry *e, const use *u) {
-    return e->operation == OP_FREE ? 'f' : u->writes ? 'w' : u->writes_atomically ? 'a' : 'r';
+    const int is_wide = accessed_bytes(e) > 8;
+    if (e->operation == OP_FREE) return 'f';
+    if (is_atomic(e->operation)) return u->writes_atomically ? 'a' : 'l';
+    return u->writes ? is_wide ? 'W' : 'w' : is_wide ? 'R' : 'r';
 }
 
 /* `before`: so many events were written before those of the access. Of a local only an event has a name; of a

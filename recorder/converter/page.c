@@ -12,7 +12,8 @@
    way, and sums of that by threads, call stacks and locks; and which events of the page's trace those of the
    races are. Lines, with tabs between their fields, behind USES_BEGIN:
        use WORD VARIABLE LOCAL LOCATION SUM..
-           WORD is r, w, a (written atomically) or f (freed). A SUM is three fields, of COUNT accesses:
+           WORD is r, w, l (loaded atomically), a (written atomically), f (freed), or R or W, of an access of
+           more than eight bytes. A SUM is three fields, of COUNT accesses:
            by COUNT THREAD          the thread makes
            bare COUNT STACK         hold no lock, and have this stack: a number of the file of stacks, or 0
            held COUNT STACK         hold locks, and have it; "many" in its place: over 64, with no sum of each
@@ -33,7 +34,7 @@
 #include <string.h>
 #include "converter.h"
 
-#define USES_BEGIN "shb-uses 2\n"
+#define USES_BEGIN "shb-uses 3\n"
 enum { BEFORE = 500, BEHIND = 16, SHORT_RUN = 20000, FAR_APART = 20000 };   /* events */
 enum { MOST_COUNTED = 64 };            /* locks */
 typedef struct { u64 first, last; } span;

@@ -70,14 +70,14 @@ class Uses(recorder.Case):
 
     def test_a_file_that_is_damaged_or_of_another_version(self):
         path, line = self.folder / "uses", "use\tr\tx\t\ta.c:1\tby\t1\tT1\tbare\t1\t0\n"
-        path.write_text(f"shb-uses 2\n{line}events\t0\n")
+        path.write_text(f"shb-uses 3\n{line}events\t0\n")
         [use] = files.Uses(path).uses
         sums = {kind: its for kind, its in use.sums.items() if its}
         self.assertEqual(use[:4], (b"r", b"x", b"", b"a.c:1"))
         self.assertEqual(sums, {b"by": {b"T1": 1}, b"bare": {0: 1}})
         for text, said in ((f"{line}events\t0\n", "is of another version"),
-                           ("shb-uses 1\n", "is of another version"), ("", "is of another version"),
-                           *((f"shb-uses 2\n{line.replace(*change)}events\t0\n", "is damaged in line 2")
+                           ("shb-uses 2\n", "is of another version"), ("", "is of another version"),
+                           *((f"shb-uses 3\n{line.replace(*change)}events\t0\n", "is damaged in line 2")
                              for change in (
                                ("by", "to"), ("\t1\tT1", "\tT1\tT1"), ("\t0\n", "\n"), ("\t0\n", "\tm\n"),
                                ("\tr", "\tq")))):
