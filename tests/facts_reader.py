@@ -587,6 +587,11 @@ class Group:
         if scope in ("writes", "reads") and any(said(access) for line in lines for access in self.used(line)):
             yield f"the lines are no others than {scope}"
         yield from self.check_held(fact["instead"], lines)
+        if "check" in fact:
+            read, act = fact["check"]
+            if (read not in lines or any(access.word != "r" for access in self.used(read))
+                or not all(holds[access] for access in uses if access.location == act)):
+                yield "no read before an act"
 
     def is_beside(self, of):
         return is_beside(of, self.variables, self.reader.lasting)

@@ -2,6 +2,7 @@
 
 import array
 import collections
+import os
 import re
 import unittest.mock
 
@@ -47,7 +48,7 @@ class Trials(program.Case):
         whole = ["shb-uses 3", *kinds, *events, *more, f"events\t{len(lines)}"]
         paths["uses"].write_text("".join(f"{line}\n" for line in whole))
         run = recorded_run(*(paths[name] for name in ("std", "uses", "stacks")))
-        self.view = view_of_run(run, asked()._replace(has_windows=False), QUIET)
+        self.view = view_of_run(run, asked()._replace(has_windows=False, sources=[self.folder]), QUIET)
         document = result.document(self.view)
         [group], [remedy] = document["groups"], {place["remedy"] for place in document["places"]}
         self.reader = facts_reader.Reader(trace, stacks, paths["uses"].read_bytes())
@@ -149,6 +150,24 @@ class Trials(program.Case):
 
         self.assertEqual([form("m", 1, 0), form("pool.c:1#2+8", 1, 0)], ["without", "apart"])
         self.assertEqual([form("m", 1, 1), form("m", 1, 2)], ["sometimes", "apart"])
+
+    def test_a_check_before_an_act(self):
+        """A line that branches on what it reads, before one of its function that has the lock: it is held
+        over both. Not if the line doesn't branch, or the other is of another function, or before it."""
+        code = ["a();", "b();", "if (x > 0) {", "lock();", "x--;", "unlock();", "y = x;"]
+        os.utime(self.file("\n".join(code).encode(), "f.c"), (1000, 1000))
+        its = [f"{thread}|{does}|f.c:{at}" for thread in "AB"
+               for does, at in (("r(x)", 3), ("acq(m)", 4), ("w(x)", 5), ("rel(m)", 6), ("r(x)", 7))]
+        both = [it for it in its if not it.endswith("7")]
+        for lines, function, check in ((both, "take", ["f.c:3", "f.c:5"]), (both, "act", None),
+                                       ([it for it in its if not it.endswith("3")], "take", None)):
+            beside = ["frame take\tf.c:3", "frame take\tf.c:7", f"frame {function}\tf.c:5"]
+            group, remedy = self.group([*HANDED[:2], *lines], beside, held={"f.c:5": "m"})
+            self.assertEqual((group["form"], group.get("check")), ("without", check))
+            self.assertEqual(remedy.startswith("hold m from f.c:3 to f.c:5: "), bool(check))
+            if check:
+                self.assertEqual(self.faults(group, check=check[::-1]),
+                                 ["without of ['x']: no read before an act"])
 
     def test_a_function_that_is_called(self):
         """What it does isn't moved out of it."""

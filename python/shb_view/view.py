@@ -3,7 +3,6 @@
 import collections
 import contextlib
 import os
-import re
 import shlex
 import stat
 import tempfile
@@ -13,6 +12,7 @@ from shb_common.report import Report, in_order
 from shb_common.stacks import BadStacks, Stacks
 from shb_common.variables import without_block
 from shb_common.words import Refused
+from shb_view.advice import advised
 from shb_view.analyser import Analyser, Verdict
 from shb_view.counting import Counting, Kinds
 from shb_view.facts import RANKS
@@ -24,15 +24,11 @@ from shb_view.stacks import perhaps_ordered
 from shb_view.trial import after_trials, still_racing, trials_of
 from shb_view.trace import CHANGED, Trace, warnings
 from shb_view.windows import make_windows
-from shb_view.words import MOST_DETAILED, Code, listed, place
+from shb_view.words import MOST_DETAILED
 
 MOST_GROUPS = 10_000
-MOST_CALLS = 3  # in a remedy
 MOST_REPORT = 100_000_000  # bytes of a report with schedules that the view asks for
 NUMBER = 7  # bytes of an event in a schedule, about
-# What has its result where all threads have it, in a library; with `_r` behind its name it hasn't.
-SHARED = rb"\b(asctime|ctime|get(?:gr|host|pw)\w+|gmtime|localtime|strerror|strtok)\s*\("
-LIBRARY = rb"lib\w[^:]*\.so[^:]*:"
 TOO_LONG = Verdict(None, "No schedules were made, since they would take over 100 MB.")
 
 
@@ -117,20 +113,9 @@ def view_of(file, made, kinds, asked, progress, unseen={}):
     source = Source(asked.sources, os.fstat(file.fileno()).st_mtime,
                     kinds.stacks.sources if asked.has_recorded else {})
     notes = [*map(readable, asked.notes), *warnings(file.name)]
-    sections = [with_result(section, source) for section in sections]
+    sections = [advised(section, source, kinds.stacks.functions) for section in sections]
     return View(title, made, sum(group.count() for group in groups), count, sections, source, notes,
                 kinds.stacks, kinds, judge=judge_of(made, file.name))
-
-
-def with_result(section, source):
-    """A group; of a library's variable with the functions that have a result for each caller as remedy."""
-    if not all(re.match(LIBRARY, name) for name in section.group.variables):
-        return section
-    calls = [["call ", Code(name + b"_r"), " at ", place(location)]
-             for location in sorted(section.group.locations())
-             for name in re.findall(SHARED, source.code(location) or b"")]
-    return section._replace(fact=section.fact._replace(remedy=[*listed(calls, MOST_CALLS), "."])
-                            ) if calls else section
 
 
 def with_run(view, run):

@@ -1,0 +1,47 @@
+"""Remedies that lines of code tell, in place of a fact's own."""
+
+import re
+
+from shb_common.locations import line_of
+from shb_common.result import text
+from shb_view.names import by_numbers
+from shb_view.words import Code, listed, lock_name, place
+
+MOST_CALLS = 3
+# What has its result where all threads have it, in a library; with `_r` behind its name it hasn't.
+SHARED = rb"\b(asctime|ctime|get(?:gr|host|pw)\w+|gmtime|localtime|strerror|strtok)\s*\("
+LIBRARY = rb"lib\w[^:]*\.so[^:]*:"
+BRANCH = rb"\b(?:if|while|switch)\s*\(|\?"
+
+
+def advised(section, source, functions):
+    """A group with what its lines of code advise; `functions` has by location those that it lies in."""
+    fact, lines = section.fact, sorted(section.group.locations())
+    if all(re.match(LIBRARY, name) for name in section.group.variables):
+        calls = [["call ", Code(name + b"_r"), " at ", place(line)]
+                 for line in lines for name in re.findall(SHARED, source.code(line) or b"")]
+        if calls:
+            fact = fact._replace(remedy=[*listed(calls, MOST_CALLS), "."])
+    both = next(checks(section, source, functions), None) if fact.form == "without" else None
+    if both:
+        remedy = ["hold ", *lock_name(fact.lock), " from ", place(both[0]), " to ", place(both[1]),
+                  ": what was read may have changed in between."]
+        fact = fact._replace(said={**fact.said, "check": list(map(text, both))}, remedy=remedy)
+    return section._replace(fact=fact)
+
+
+def checks(section, source, functions):
+    """Racing lines that decide by what they read without the lock, each with the next line of its function
+    where a thread of its uses the same with it."""
+    def is_after(one, other):
+        places = [line_of(site.location or b"") for site in (one, other)]
+        return all(places) and places[0][0] == places[1][0] and places[0][1] < places[1][1]
+
+    for site in section.sites:
+        if (site.partners and site.lacks(section.fact.lock) and not site.writes()
+            and re.search(BRANCH, source.code(site.location) or b"")):
+            later = [it.location for it in section.sites
+                     if not it.lacks(section.fact.lock) and is_after(site, it)
+                     and not site.threads.keys().isdisjoint(it.threads)
+                     and functions.get(it.location, set()) & functions.get(site.location, set())]
+            yield from ((site.location, it) for it in sorted(later, key=by_numbers)[:1])
