@@ -35,7 +35,7 @@ OUTSIDE = {
         "__interceptor_* __sanitizer_syscall_pre_* _post_*",
     "others of these, and one that it makes by macros": "__tsan_default_suppressions __tsan_read4_pc",
     "a descriptor": "fd5",
-    "a service": "gitlab",
+    "words of services": "gitlab matrix",
 }
 
 # Files and folders that commands make, and files of the reader's own.

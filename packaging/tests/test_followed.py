@@ -153,8 +153,8 @@ class Followed(installing.Case):
 class Recipes(installing.Case):
     def test_the_recipes_for_ci(self):
         """Of both services: what they run is the same, with an empty file of known places and a program
-        with a race."""
-        found = re.findall(r"^ +- (?:run: )?(make CFLAGS.*|shb-record .*)$", GUIDE, re.M)
+        with a race. Then results are joined."""
+        *found, join = re.findall(r"^ +- (?:run: )?(make CFLAGS.*|shb-record .*)$", GUIDE, re.M)
         self.assertEqual((len(found), found[:2]), (4, found[2:]))
         (self.folder / "Makefile").write_text("app: account.c\n\tcc $(CFLAGS) -c account.c && cc $(LDFLAGS) "
                                               "account.o -o app\n")
@@ -163,6 +163,10 @@ class Recipes(installing.Case):
         how = {"cwd": self.folder, "env": {"PATH": f"{installing.installed()}/bin:{os.defpath}"}}
         call("sh", "-c", found[0], **how)
         call("sh", "-c", found[1], status=66, **how)
+        for part in ("part1", "part2"):
+            shutil.copytree(self.folder / "races", self.folder / part)
+        call("sh", "-c", join, status=66, **how)
+        self.assertIn('href="../part2/run', (self.folder / "all/index.html").read_text())
         shutil.copy(self.folder / "races/unknown.places", self.folder / "known.places")
         call("sh", "-c", found[1], **how)
         self.assertIn(
