@@ -198,23 +198,23 @@ class Conversion:
             self.note_page(chosen)
 
     def verify(self):
-        """Finds the places again, in a trace that omits nothing and has no bundles: they are the same. It may
-        have a variable in more pieces, so it has the others' names, and perhaps more."""
+        """Finds the races again, in a trace that omits nothing and has no bundles: they are the same. Of a
+        place with more variables than are kept these aren't compared."""
         words = [self.words[0], "-a", *self.list_words[1:]]
         with contextlib.closing(Listing(open(self.process.beside(".verified"), "w+b"))) as listed, \
                 Run(words, None, listed.descriptor, **apart()) as ran:
             listed.begun()
             again = listed.places()
             self.said(ran.answer())
-        found, wanted = ({(place.first, place.second): place.variables.keys() for place in its}
+        found, wanted = ({(place.first, place.second, name) for place in its
+                          for name in ([b"all"] if place.has_more else place.variables)}
                          for its in (self.places, again))
-        differ = [place for place in sorted(found.keys() | wanted.keys())
-                  if place not in found or not found[place] <= wanted.get(place, set())]
-        for first, second in differ[:1]:
-            where = "that omits nothing" if (first, second) not in found else "of the run"
-            raise Contradiction(f"{self.process.name}: --verify: only the trace {where} has this race at "
-                                f"{printable(first)} and {printable(second)}; "
-                                f"{counted(len(differ), 'such place')}")
+        differ = sorted(found ^ wanted)
+        for first, second, name in differ[:1]:
+            where = "that omits nothing" if (first, second, name) in wanted else "of the run"
+            raise Contradiction(f"{self.process.name}: --verify: only the trace {where} has a race of "
+                                f"{printable(name)} at {printable(first)} and {printable(second)}; "
+                                f"{counted(len(differ), 'such race')}")
 
     def take_places(self, listed, ran, finer):
         """Takes the places of the run. In a coarse trace variables that are used alike are one, a bundle. As

@@ -74,7 +74,7 @@ void find_earlier_cuts(void) {
     for (u64 i = 0, end = 0; i < record_count; i++) {
         if (i == end) end = next_records(i);
         const block *b = known[i].accessed ? block_of(known[i].accessed - 1) : 0;
-        if (b && b->users != SEVERAL) known[i].accessed = 0;
+        if (b && b->users != SEVERAL) known[i].accessed *= whole_trace;
         else if (b && i < b->shared_at) {
             const entry e = entry_at(i);
             cut_access(&e, end_of(&e));
@@ -167,8 +167,11 @@ void share_pieces(const entry *e) {
     const int may_be_unseen = is_plain(e->operation) || e->operation == OP_FREE;
     known_record *k = &known[e->number];
     if (k->accessed && may_be_unseen && is_unseen(e->caller)) k->accessed = 0;
+    if (!k->accessed) return;
     const use u = use_of(e);
-    if (k->accessed) k->accessed = share_all(e, &u);
+    block *b = block_of(k->accessed - 1);
+    if (is_shared_block(b)) k->accessed = share_all(e, &u);
+    else share_run(e, &u, APART, k->accessed = piece_of_block(b), 1);
 }
 
 piece *only_piece(const entry *e) {

@@ -151,6 +151,7 @@ typedef struct {
     u64 at, size, caller;
     u32 thread, node;                  /* node: of the file of stacks, where it was allocated; or 0 */
     some_threads users;
+    u32 piece;                         /* of a block of one thread, if it has been asked for */
     u64 shared_at;                     /* the record from which on it has several users */
     uint8_t stack, named, freed;
 } block;
@@ -193,6 +194,7 @@ u64 end_of_same(u64 from, u64 end);    /* up to there memory is of one block, or
    numbers that follow each other, but at most those in the cut's stretch of 64 bytes, and the next cut, or
    `end`. In the third pass; makes them. */
 u32 neighbours_at(u64 *cut, u64 end, u32 *count);
+u32 piece_of_block(block *b);          /* all of it is one; it has no other */
 u32 piece_count(void);
 piece *piece_of(u32 number);
 piece_use *use_of_piece(u32 number);
@@ -260,6 +262,7 @@ void end_uses(void);                   /* of each trace */
 
 /* accesses.c, objects.c: what the passes do with a record. */
 extern int whole_trace;                /* also what cannot conflict */
+extern int cuts_all;                   /* also blocks that one thread alone uses */
 /* that a record accesses, from the third pass on; null of several, or none */
 piece *only_piece(const entry *e);
 void find_users(const entry *e);

@@ -183,7 +183,8 @@ static const char help[] =
     "                 memory that are there when it begins\n"
     "  --left FILE    write the blocks that are there at its end to this file\n"
     "  -n EVENTS      at most so many events (4194304)\n"
-    "  -a             also what can't conflict\n"
+    "  -a             also what can't conflict; with --list each block that one thread\n"
+    "                 alone uses is one variable\n"
     "  --strip DIR    files below this folder are named by their paths from it; else\n"
     "                 a file is named by the end of its path that no other file of\n"
     "                 the program has\n"
@@ -231,6 +232,7 @@ static void read_words(int count, char **words) {
     if (paths[PAGE] && !paths[ONLY]) bad_words("--page", " needs --only");
     if (for_list && paths[ONLY] && !paths[PAGE]) bad_words("--list", " with --only needs --page");
     is_coarse = finer_count != 0;
+    cuts_all = whole_trace && !for_list;
     if (is_coarse && !(for_list && paths[PAGE])) bad_words("--finer", " needs --list and --page");
 }
 

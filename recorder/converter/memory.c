@@ -23,6 +23,7 @@ typedef struct {
     u32 *slots;
 } page;
 
+int cuts_all;
 u64 range_steps;
 static VECTOR(block) blocks;
 static u64 met;                        /* how many blocks in this pass */
@@ -137,7 +138,7 @@ block *meet_block(const entry *e) {
     if (++met > blocks.count) {        /* in the first pass */
         const int is_stack = e->operation == OP_START;
         *PUSH(blocks) = (block){e->address, size, e->caller, .stack = is_stack,
-                                .users = whole_trace ? SEVERAL : 0, .thread = e->thread};
+                                .users = cuts_all ? SEVERAL : 0, .thread = e->thread};
         cut(from, end);
     }
     allot(from, end, met);
@@ -207,6 +208,15 @@ inline u32 neighbours_at(u64 *cut, u64 end, u32 *count) {
     if (rest) *cut = from + __builtin_ctzll(rest);
     else *cut = end <= stop ? end : next_cut(from + 63 - __builtin_clzll(cuts), end);
     return *slots;
+}
+
+u32 piece_of_block(block *b) {
+    if (!b->piece) {
+        *PUSH(piece_uses) = (piece_use){0};
+        *PUSH(pieces) = (piece){.at = b->at, .block = block_number(b)};
+        b->piece = pieces.count;
+    }
+    return b->piece;
 }
 
 u32 piece_count(void) { return pieces.count; }

@@ -51,6 +51,7 @@ static u32 find_object(u64 at, int is_of_atomic) {
 static object *object_of(const entry *e) {
     int is_of_atomic = is_atomic(e->operation);
     piece *p = only_piece(e);
+    if (p && p->at != e->address) p = 0;         /* in a block that is one */
     u32 number = p ? p->object : 0;
     if (!number || objects.at[number - 1].is_of_atomic != is_of_atomic)
         number = find_object(e->address, is_of_atomic);

@@ -222,9 +222,24 @@ class Decided(recorder.Case):
             converter = test_open.planted(self.folder / f"epoch{is_right}", *fault)
             races, traces = found(path, converter)
             self.assertEqual((differs(wanted, races) is None, traces), (is_right, 2))
-        said = "only the trace that omits nothing has this race at 0x201 and 0x104; 1 such place"
+        said = "only the trace that omits nothing has a race of 0x5000 at 0x201 and 0x104; 1 such race"
         with self.assertRaisesRegex(converting.Contradiction, said):
             found(path, converter, True)
+
+    def test_each_variable_at_a_place_is_verified(self):
+        """Two neighbours race at one place, in a block whose memory one thread alone had before, and cut."""
+        path, block = self.folder / "app.rec", 0x8000
+        lost = test_open.planted(self.folder / "lost", "accesses.c", "? 1 : r->count;",
+                                 "|| !whole_trace ? 1 : r->count;")
+        steps = [Step(0, "FORK", 1, 0x101), Step(0, "ALLOC", block, 0x102, 64),
+                 *(Step(0, "WRITE", block + at, 0x103, 2) for at in range(0, 64, 2)),
+                 Step(0, "FREE", block, 0x104), Step(0, "ALLOC", block, 0x105, 64),
+                 Step(0, "WRITE", block, 0x106, 16), *(Step(1, "WRITE", block + at, 0x201, 8) for at in (0, 8))]
+        path.write_bytes(HEADER + b"".join(entry(*step) for step in steps))
+        races = {(0x106, 0x201): {(2, 0), (2, 8)}}
+        self.assertEqual(found(path, recorder.BUILT / "shb-std", True), (races, 2))
+        with self.assertRaisesRegex(converting.Contradiction, r"0x105#2\+8 at 0x106 and 0x201; 1 such race"):
+            found(path, lost, True)
 
     def test_a_record_that_is_read_a_few_entries_at_a_time(self):
         few = test_open.planted(self.folder / "few", "records.c", "AT_ONCE = 1 << 16", "AT_ONCE = 3")
