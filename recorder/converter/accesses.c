@@ -45,7 +45,7 @@ int means_access(const entry *e) { return !e->is_late || known[e->number].access
 
 static void cut_access(const entry *e, u64 end) {
     note_caller(e->caller);
-    cut(e->address, e->operation == OP_FREE ? e->address : end);
+    cut(e->address, end);
 }
 
 static int is_shared_block(const block *b) { return !b || b->users == SEVERAL; }

@@ -43,7 +43,7 @@ class Drawn(test_open.Drawn):
             self.add("READ" if word == "R" else "WRITE", cell, self.draw.choice(self.sizes))
         elif word == "B":
             at = self.draw.choice((0x8000, 0x8020, 0x8040))
-            self.add(*self.draw.choice((("ALLOC", at, 16 * self.draw.randrange(1, 5)), ("FREE", at))))
+            self.add(*self.draw.choice((("ALLOC", at, self.draw.randrange(1, 65)), ("FREE", at))))
         elif word == "G":  # gives, and takes what others gave
             cell = self.draw.choice(self.cells[:2])
             self.add("ATOMIC_UPDATE", cell, 4 | 3 << 5)
@@ -226,6 +226,18 @@ class Decided(recorder.Case):
         with self.assertRaisesRegex(converting.Contradiction, said):
             found(path, converter, True)
 
+    def test_a_free_ends_with_its_block(self):
+        """Who reads bytes behind it sees who wrote these, and comes after that thread's other accesses."""
+        path, cell, block = self.folder / "app.rec", 0x5000, 0x8000
+        steps = [Step(0, "FORK", 1, 0x101), Step(0, "FORK", 2, 0x102), Step(0, "ALLOC", block, 0x103, 7),
+                 Step(1, "WRITE", cell, 0x201, 4), Step(1, "WRITE", block + 4, 0x202, 8),
+                 Step(0, "FREE", block, 0x104), Step(2, "READ", block + 4, 0x301, 8),
+                 Step(2, "READ", cell, 0x302, 4)]
+        path.write_bytes(HEADER + b"".join(entry(*step) for step in steps))
+        wanted = Analysis(steps).races
+        self.assertNotIn((0x201, 0x302), wanted)
+        self.assertEqual(listed(path, recorder.BUILT / "shb-std").keys(), wanted.keys())
+
     def test_each_variable_at_a_place_is_verified(self):
         """Two neighbours race at one place, in a block whose memory one thread alone had before, and cut."""
         path, block = self.folder / "app.rec", 0x8000
@@ -309,8 +321,7 @@ FAULTS_OF_MANY = (
 )
 FAULTS = {  # to plant in the converter: the file, what stands there, and what in its place
     "users": ("accesses.c", "    add_thread(&b->users, e->thread);", ""),
-    "cuts": ("accesses.c", "cut(e->address, e->operation == OP_FREE ? e->address : end);",
-             "cut(e->address, e->address);"),
+    "cuts": ("accesses.c", "cut(e->address, end);", "cut(e->address, e->address);"),
     "atomics": ("accesses.c", "if (u->writes_atomically && has_others(users->readers, u->thread)) {",
                 "if (u->writes_atomically && users->readers == SEVERAL) {"),
     "reuse": ("memory.c", "return grain > p->whole ? grain : p->whole;",
