@@ -78,7 +78,9 @@ class Analysis:
         self.noted, self.fenced = collections.defaultdict(list), set()
         self.races = collections.defaultdict(set)
         self.barriers = collections.defaultdict(Barrier)
+        self.foreign = set()  # locks that another thread once releases than took them
         self.meet_barriers(steps)
+        self.meet_locks(steps)
         for step in steps:
             self.take_step(step, self.threads[step.thread])
 
@@ -155,10 +157,22 @@ class Analysis:
         take(self.clocks[t], self.clocks[self.threads[step.address]])
 
     # ---- locks and semaphores ----
+    def meet_locks(self, steps):
+        holders = {}
+        for step in steps:
+            if step.operation == "LOCK":
+                holders[step.address] = step.thread
+            elif step.operation == "UNLOCK" and holders[step.address] != step.thread:
+                self.foreign.add(step.address)
+
     def lock(self, step, t):
         take(self.clocks[t], self.locks[step.address])
+        if step.address in self.foreign:
+            take(self.locks[step.address], self.clocks[t])
 
     def unlock(self, step, t):
+        if step.address in self.foreign:
+            take(self.clocks[t], self.locks[step.address])
         take(self.locks[step.address], self.clocks[t])
 
     def read_lock(self, step, t):

@@ -25,13 +25,14 @@ BLOCK = re.compile(rb"0x[0-9a-f]+#(\d+)(?:\+(\d+))?")
 class Drawn(test_open.Drawn):
     """Besides: accesses of any bytes of a few cells, blocks that are freed and allocated again, ends of locks
     and semaphores, counters; long ranges, large blocks, and barriers, which a thread may leave before others
-    come."""
+    come; mixed accesses of an atomic, and a lock that others release than took it."""
 
     all_words = ([words + more for words in test_open.WORDS for more in ("", "B", "BD", "RWBB")]
                  + ["RWGG", "RWGAF"])
+    all_words += ["M"] * 8 + ["RWMB", "RWV", "WVB"]
     all_words += ["RWN", "NNB", "RRKKK", "WKKKL", "NKKK", "RWTT", "RWTTL", "NTTT"]
     sizes = 1, 2, 3, 4, 8, 16, 24
-    large, barrier = 0x9000, 0x7100
+    large, barrier, buffer, passed = 0x9000, 0x7100, 0xa000, 0x6200
 
     def __init__(self, seed):
         self.inside = set()  # of the barrier
@@ -57,6 +58,10 @@ class Drawn(test_open.Drawn):
             self.use_large_block()
         elif word == "T":
             self.pass_barrier()
+        elif word == "V":
+            self.pass_lock()
+        elif word == "M":
+            self.use_mixed()
         elif word == "D":
             self.add("DESTROY", self.draw.choice((0x6000, 0x7000)))
         else:
@@ -71,6 +76,28 @@ class Drawn(test_open.Drawn):
         else:
             at = self.draw.choice((0, 500, 510, 516, 1000, 1020, 4000, 4092))
             self.add(kind, self.large + at, self.draw.choice(self.sizes))
+
+    def use_mixed(self):
+        """An atomic that half of the threads only load, and others store, and write once or twice; beside
+        bytes that these race for."""
+        chance = self.draw.random()
+        if self.thread % 2 or chance > 0.3:
+            writes = chance > 0.9 and sum(step.operation == "WRITE" and step.address == self.cells[0]
+                                          for step in self.steps) < 2
+            kind = "ATOMIC_LOAD" if self.thread % 2 else "WRITE" if writes else "ATOMIC_STORE"
+            self.add(kind, self.cells[0], 4)
+        else:
+            for byte in range(self.draw.randrange(2, 12)):
+                self.add("WRITE", self.buffer + byte, 1)
+
+    def pass_lock(self):
+        holder = self.owners.get(self.passed)
+        if holder is None:
+            self.owners[self.passed] = self.thread
+            self.add("LOCK", self.passed)
+        elif holder == self.thread or self.draw.random() < 0.2:
+            del self.owners[self.passed]
+            self.add("UNLOCK", self.passed)
 
     def pass_barrier(self):
         if not any(step.operation == "BARRIER_INIT" for step in self.steps) or self.draw.random() < 0.02:
@@ -322,6 +349,8 @@ FAULTS_OF_MANY = (
 FAULTS = {  # to plant in the converter: the file, what stands there, and what in its place
     "users": ("accesses.c", "    add_thread(&b->users, e->thread);", ""),
     "cuts": ("accesses.c", "cut(e->address, end);", "cut(e->address, e->address);"),
+    "who takes a lock that others release gives": (
+        "objects.c", "if (o->foreign) pass_lock(o, t, own, caller);\n        else if", "if"),
     "atomics": ("accesses.c", "if (u->writes_atomically && has_others(users->readers, u->thread)) {",
                 "if (u->writes_atomically && users->readers == SEVERAL) {"),
     "reuse": ("memory.c", "return grain > p->whole ? grain : p->whole;",
@@ -370,6 +399,7 @@ FAULTS = {  # to plant in the converter: the file, what stands there, and what i
 
 
 FAULTS_OF_BUNDLES = {
+    "a finer trace omits what repeats a coarse one": ("records.c", "        s->epoch++;\n", ""),
     "no last use": ("bundles.c", "u->is_pending = 1;", "u->is_pending = 0;"),
     "no first use of a later phase": ("bundles.c", "u->phase != b->phase", "!u->phase"),
     "who writes reads": ("bundles.c", 'b->writer ? "w" : "r"', '"r"'),
