@@ -199,6 +199,12 @@ def is_beside(locks, variables, lasting):
     return all(variable in locks and its and its == thing(locks[variable]) for variable, its in named.items())
 
 
+def element_of(name):
+    """What a member is of, as a[3] of a[3].sum; or its name."""
+    found = re.fullmatch(r"(.*?)\.[A-Za-z_]\w*( of .+)?", name, re.S)
+    return found.groups() if found else name
+
+
 class Group:
     """A fact with its group. `traced` are the accesses of its variables that the trace has, `all` those that
     facts count. The name of what a thread writes atomically is that of the atomic here."""
@@ -510,7 +516,8 @@ class Group:
 
     def check_name(self):
         """A lock has its own name, but where variables have different ones: numbers of blocks and elements
-        are `*` then. It is that lock of its kind which most accesses of the variable hold."""
+        are `*` then. It is that lock of its kind which is in the variable's element, or which most of its
+        accesses hold."""
         of, name = self.fact["locks"], self.fact["name"]
         if not all(map(self.may_be_rule, of.values())):
             yield "the lock is no rule"
@@ -523,7 +530,8 @@ class Group:
                     for lock in access.held | access.shared:
                         held[lock] += access.count
             if (any(count > held[of[variable]] for lock, count in held.items()
-                    if NUMBERS.sub("*", lock) == name) and not self.is_merged()):
+                    if NUMBERS.sub("*", lock) == name) and not self.is_merged()
+                and element_of(of[variable]) != element_of(self.reader.lasting.get(variable, variable))):
                 yield f"{of[variable]} isn't the lock that most accesses of {variable} hold"
 
     def may_be_rule(self, lock):
@@ -645,7 +653,7 @@ class Group:
                      for access in self.used(line)]
             found = [sum(count for has, count in holds if has), sum(count for _, count in holds)]
             if (len({has for has, _ in holds}) != 2 or line not in self.lines or not self.is_merged()
-                and (found != [some, all] or 2 * some < all)):
+                and (found != [some, all] or 2 * some <= self.held_count(line))):
                 yield f"{line} holds it at {found}"
             if not any(access.word == "w" for access in self.used(line)):
                 yield f"{line} only reads"
@@ -653,16 +661,21 @@ class Group:
             yield "no line"
 
     def has_sometimes(self):
-        """Of one variable: a racing line that writes and holds some lock at half of its accesses or more."""
+        """Of one variable: a racing line that writes and holds a lock at some of its accesses, at most of
+        those with a lock."""
         def counts(line, lock):
             holds = [(self.has(access, lock), access.count) for access in self.used(line)]
             return sum(count for has, count in holds if has), sum(count for _, count in holds)
         return len(self.variables) == 1 and not self.is_merged() and any(
-            counts(line, lock)[0] < counts(line, lock)[1] <= 2 * counts(line, lock)[0]
+            counts(line, lock)[0] < counts(line, lock)[1] and self.held_count(line) < 2 * counts(line, lock)[0]
             and any(access.word == "w" for access in self.used(line))
             and not all(any(re.sub("[0-9]", "", other) == re.sub("[0-9]", "", lock)
                             for other in self.locks(access)) for access in self.used(line))
             for line in self.lines for lock in filter(self.may_be_rule, self.held_at(line)))
+
+    def held_count(self, line):
+        """At how many of a line's accesses some lock is held."""
+        return sum(access.count for access in self.used(line) if access.held or access.shared)
 
     def held_at(self, line):
         return set().union(*(access.held | access.shared for access in self.used(line)))

@@ -60,6 +60,22 @@ class Facts(program.Case):
         self.assertEqual(faults, [])
         self.assertLessEqual(set(facts_reader.KNOWN) - {"uncounted", "ordered"}, set(forms))
 
+    def test_a_lock_of_each_element(self):
+        """Elements that different threads use have a lock in their own element, which no element alone
+        tells of the one line that holds another's."""
+        lines = [f"{thread}|{does}|f.c:{at}" for thread, lock, element, at in (
+                     ("A", 0, 0, 10), ("B", 1, 1, 20), ("C", 1, 0, 30), ("D", 0, 1, 30))
+                 for does in (f"acq(a[{lock}].door)", f"w(a[{element}].sum)", f"rel(a[{lock}].door)")]
+        trace = "".join(f"{line}\n" for line in lines).encode()
+        stacks = b"shb-stacks 1 %020d\n" % len(lines) + bytes(4 * len(lines))
+        [(fact, pairs)] = facts_of(trace, stacks)
+        self.assertEqual((fact["form"], fact["name"], fact["lines"], fact["locks"]), (
+            "without", "a[*].door", ["f.c:30"], {"a[0].sum": "a[0].door", "a[1].sum": "a[1].door"}))
+        reader = facts_reader.Reader(trace, stacks)
+        self.assertEqual(list(reader.faults([(fact, pairs)])), [])
+        fact["locks"] = {"a[0].sum": "a[1].door", "a[1].sum": "a[0].door"}
+        self.assertNotEqual(list(reader.faults([(fact, pairs)])), [])
+
     def test_a_report_of_no_race(self):
         """A report may be wrong: accesses that hold one lock don't race, and that is the fact."""
         lines = [b"%b|%b|a.c:%d" % (thread, operation, number) for number, (thread, operation) in enumerate(

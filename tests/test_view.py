@@ -488,6 +488,11 @@ class Groups(program.Case):
         text = trace_of("A w x 1", "B r y 9", "B r y 9", "B w x 2", "C w x 1")
         self.assertEqual(windows(text, shb.report(text, True))[0].accesses, (4, 5))
 
+    def test_the_race_that_is_shown_is_at_the_line_that_is_named_first(self):
+        text = trace_of("A w x 1", "B r y 9", "B w x 2", "C r x 3")
+        [section] = sections(text, shb.report(text, True))
+        self.assertEqual((section.fact.tag[0], section.window.accesses), (b"f.c:1", (1, 3)))  # not 3 and 4
+
     def test_what_several_variables_share(self):
         for variables, name in (
             ([b"x"], [b"x"]),

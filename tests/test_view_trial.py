@@ -127,7 +127,8 @@ class Trials(program.Case):
 
     def test_a_plain_write_beside_an_atomic_read(self):
         lines = [*HANDED[:2], "A|w(x)|f.c:2", "B|r(x)|f.c:6"]
-        for word, remedy in (("w", "access it atomically at f.c:2 too."),
+        once = "access it atomically at f.c:2 too, or initialize it before creating threads."
+        for word, remedy in (("w", once),
                              ("W", "access its members one by one, atomically, at f.c:2, or hold one lock at "
                                    "f.c:2 and f.c:6.")):
             group, said = self.group(lines, words={"f.c:6": "l", "f.c:2": word})
@@ -137,7 +138,7 @@ class Trials(program.Case):
             self.assertEqual([kinds.of(3, b"w", b"x"), kinds.of(4, b"r", b"x")], [b"w", b"l"])
 
     def test_a_lock_that_is_no_rule(self):
-        """Of some block, for a global variable; or held at less than half of a line's accesses."""
+        """Of some block, for a global variable; or none of the locks that a line holds most of the time."""
         def lines(lock, *counts):
             begin = [f"main|fork({thread})|f.c:1" for thread in "AB"]
             held = [f"A|acq({lock})|f.c:2", "A|w(x)|f.c:3", f"A|rel({lock})|f.c:4"]
@@ -149,7 +150,9 @@ class Trials(program.Case):
             return self.group(lines(lock, *counts), held={"f.c:3": some})[0]["form"]
 
         self.assertEqual([form("m", 1, 0), form("pool.c:1#2+8", 1, 0)], ["without", "apart"])
-        self.assertEqual([form("m", 1, 1), form("m", 1, 2)], ["sometimes", "apart"])
+        self.assertEqual([form("m", 1, 1), form("m", 1, 9)], ["sometimes", "sometimes"])
+        of_three = "held\t3\t0\tunder\t1\tm\tunder\t1\tk\tunder\t1\tl\tbare\t1\t0"
+        self.assertEqual(self.group(lines("m", 1, 3), held={"f.c:3": of_three})[0]["form"], "apart")
 
     def test_a_check_before_an_act(self):
         """A line that branches on what it reads, before one of its function that has the lock: it is held
@@ -176,19 +179,22 @@ class Trials(program.Case):
         self.assertIn("moved", self.group(LATE, beside, stacks=[1, 1, 2])[0])
 
     def test_a_use_after_a_release(self):
-        """Each behind its own, of a lock or of an atomic for each other thread."""
+        """Each behind its own, of a lock or of an atomic for each other thread; or as one, that is recorded
+        twice."""
         remedy = f"move f.c:4 before the release of m at f.c:3{TRIED}"
         for lines, beside, moved, more in (
                 (GIVEN, (), [(4, 3)], []), (GIVEN, (), [(4, 3)], ["repeated\t4"]),
                 ([line.replace("(m)", "(m@1>B)") for line in GIVEN], FLAG, [(4, 2)], []),
-                ([*GIVEN[:3], "A|acq(m@1>C)|f.c:3", "A|rel(m@1>C)|f.c:3", *GIVEN[3:]], (), [(6, 3)], [])):
+                ([*GIVEN[:3], "A|acq(m@1>C)|f.c:3", "A|rel(m@1>C)|f.c:3", *GIVEN[3:]], (), [(6, 3)], []),
+                ([*GIVEN[:4], *GIVEN[3:]], (), [(4, 3), (5, 3)], [])):
             group, found = self.group(lines, beside, more)
             self.assertEqual((group["moved"], found), (moved, remedy))
-        self.assertEqual(self.faults(group, moved=[(6, 6)]), ["no-lock of ['x']: the move leaves a race"])
+        self.assertEqual(self.faults(group, moved=[(5, 6)]), ["no-lock of ['x']: the move leaves a race"])
 
     def test_a_use_that_a_release_before_tells_nothing_of(self):
         """Two behind one; one that stands for several; the lock that a thread takes of another; a barrier."""
-        for lines, beside, more in (([*GIVEN[:4], *GIVEN[3:]], (), []), (GIVEN, (), ["repeated\t4\tonce"]),
+        for lines, beside, more in (([*GIVEN[:4], "A|r(y)|f.c:5", *GIVEN[3:]], (), []),
+                                    (GIVEN, (), ["repeated\t4\tonce"]),
                                     ([line.replace("(m)", "(m@1>A)") for line in GIVEN], (), []),
                                     ([line.replace("(m)", "(m@1)") for line in GIVEN], (), [])):
             self.assertNotIn("moved", self.group(lines, beside, more)[0])

@@ -118,7 +118,8 @@ class Counting:
         self.again = collections.defaultdict(list)  # by variable: its events that stand for repeats
         self.releases = {}  # by thread: its last one in this part
         self.handing = {use.name for use in kinds.stacks.uses}  # atomics
-        self.follows = {}  # by word, variable and location: by a release the access after it; None if two are
+        # by word, variable and location: by a release the events of the access after it; None if two are
+        self.follows = {}
 
     def read(self, trace, events):
         """Takes all events of the trace; there have to be so many."""
@@ -199,8 +200,10 @@ class Counting:
         self.alike[thread, operation, location] = number
         release, its = self.releases.get(thread), self.follows.setdefault((word, variable, location), {})
         if release and its is not None:
-            self.follows[word, variable, location] = None if release in its else its
-            its[release] = number
+            before = its.get(release, ())  # the same access again, as it may be recorded twice
+            is_one = not before or self.last[thread] == before[-1] and number not in self.repeated
+            its[release] = *before, number
+            self.follows[word, variable, location] = its if is_one else None
         if self.uses is not None and number not in self.wanted:
             return
         if not self.access_kinds.is_in_life(number, variable):

@@ -116,12 +116,12 @@ def add_to(sums, others, names):
         sums[names.get(key, key)] += count
 
 
-class Fact(collections.namedtuple("Fact", "form said tag sentences remedy lock handed",
-                                  defaults=([], None, ()))):
+class Fact(collections.namedtuple("Fact", "form said tag sentences remedy lock handed parts",
+                                  defaults=([], None, (), ()))):
     """`form` is one of the definitions, and `said` has what it is said of, by names that programs read. `tag`
     is a short form of the sentences, and `remedy` what would order the accesses, or nothing. `lock` is the
     one that it is about, or None. `handed` has variables, by their names in the trace, each with its pairs of
-    a store and a load."""
+    a store and a load; `parts` of a mixed fact its groups."""
 
     def pairs(self):
         return [pair for _, pairs in self.handed for pair in pairs]
@@ -205,8 +205,8 @@ def joined(parts):
 
 class Locks:
     """The locks of a group's variables. Of those that differ by numbers of blocks and elements alone, as
-    `a[3].door`, a variable's own one is that which most of its accesses hold; it has one name for all
-    variables."""
+    `a[3].door`, a variable's own one is that of its element, or that which most of its accesses hold; it has
+    one name for all variables."""
 
     def __init__(self, used, private, name):
         """`private` are locks on stacks that one thread alone uses: none of these is told. `name` gives a
@@ -216,9 +216,10 @@ class Locks:
         of_frees = [*itertools.chain(*used.frees.values())]
         self.locks = {variable: set().union(*(use.sums[how] for use in (*its, *of_frees) for how in HOW_HELD))
                       for variable, its in used.variables.items()}
-        held = [(-count, variable, lock) for variable, its in used.variables.items()
+        held = [(not is_member(lock, name(variable)), -count, variable, lock)
+                for variable, its in used.variables.items()
                 for lock, count in held_in(its).items()] if len(self.locks) > 1 else []
-        for _, variable, lock in sorted(held):
+        for *_, variable, lock in sorted(held):
             self.own.setdefault(alike(lock), {}).setdefault(variable, lock)
         self.named = collections.defaultdict(dict)  # by variable: its own locks, with their names
         for name, own in self.own.items():
@@ -376,8 +377,10 @@ def not_atomic(racing, whole):
                 *lines_of(plain), f" {verb} not atomic."]
     said = {"atomic": names_of(atomic), "plain": names_of(plain)}
     wide = [site for site in plain if True in site.widths]
+    begins = ", or initialize it before creating threads" * (not any(map(Site.reads, plain)))
     remedy = (["access its members one by one, atomically, at ", *lines_of(wide), ", or hold one lock at ",
-               *lines_of(racing), "."] if wide else ["access it atomically at ", *lines_of(plain), " too."])
+               *lines_of(racing), "."] if wide else
+              ["access it atomically at ", *lines_of(plain), f" too{begins}."])
     return Fact("plain", said, [*lines_of(plain), f" {verb} not atomic"], [sentence], remedy)
 
 
@@ -460,6 +463,13 @@ def is_beside(locks, lock, variables):
     return all(of_variable and of_variable == of_lock for of_variable, of_lock in pairs)
 
 
+def is_member(lock, variable):
+    """Whether both are members of one element, as a[3].door and a[3].sum are."""
+    one, other = ([parts["base"], *parts["inside"].rpartition(b".")[:2], parts["block"], parts["of"]]
+                  for parts in map(name_parts, (lock, variable)))
+    return one == other and one[2] == b"."
+
+
 def object_in(name):
     """The named object or the block that a name is inside of; None of one that is no part, or on a stack."""
     parts = name_parts(name)
@@ -497,9 +507,9 @@ def verb_of(sites):
 
 
 def sometimes(sites, racing, lock, locks, whole):
-    """A lock that racing lines hold at half of their accesses or more, and no line at each."""
-    some = [site for site in racing if site.lacks(lock) and site.guarded(lock) * 2 >= site.total
-            and site.writes() and not holds_another(site, lock)]
+    """A lock that racing lines hold at most of their accesses with a lock, and no line at each."""
+    some = [site for site in racing if site.lacks(lock) and site.writes() and not holds_another(site, lock)
+            and site.guarded(lock) * 2 > site.total - site.bare]
     if not some:
         return None
     counts = [[f"{site.guarded(lock):,} of {counted(site.total, 'access', 'accesses')} at ",
@@ -571,9 +581,6 @@ def no_lock(sites, racing, whole):
                    and by_numbers(reader.location or b"") < by_numbers(site.location or b"")
                    for site in writing for reader in readers)
     remedy = [(STEP if tests_it else FLAG) * is_one + "hold one lock at ", *lines_of(racing), "."]
-    if is_one and any(map(Site.is_atomic, sites)):
-        remedy = ["make each access at ", *lines_of(racing),
-                  " atomic; initialize it before creating threads."]
     tag = [*lines_of(writing), f" {verb}", *also, " without a lock"]
     return Fact("no-lock", said, tag, [sentence], remedy)
 

@@ -9,7 +9,7 @@ from shb_common.variables import variable_of
 from shb_view.facts import RANKS, fact_of, joined, sites_of
 from shb_view.groups import ON_STACK, Group, Pair, object_of
 from shb_view.handed import MOST_RACES, handed, published, stores_of
-from shb_view.words import Code, listed
+from shb_view.words import Code, Own, listed
 
 MOST_NAMED = 3  # variables in a sentence
 
@@ -97,7 +97,9 @@ class Facts:
         for name in found.group.names:
             names.setdefault(self.kinds.in_trace(name), []).append(name)
         alone = {variable: self.alone(found, variable, its) for variable, its in names.items()}
-        if {one.fact.form for one in alone.values()} == {found.fact.form}:
+        forms = {one.fact.form for one in alone.values()}
+        is_own = found.fact.form == "without" and isinstance(found.fact.lock, Own)
+        if forms == {found.fact.form} or is_own and forms <= {"without", "sometimes", "apart"}:
             return ()
         for variable, one in alone.items():
             alike.setdefault((one.fact.form, str(one.fact.tag)), []).append(variable)
@@ -116,7 +118,7 @@ class Facts:
         return self.known[variable]
 
     def mixed(self, parts):
-        """What is said of a group whose variables differ: of each part its fact."""
+        """What is said of a group whose variables differ: the fact of each part."""
         names = [listed([[Code(name)] for name in one.group.variables], MOST_NAMED) for one in parts]
         said = [fact_entry(one, self.kinds) for one in parts]
         sentences = [[*its, ": ", *sentence] for its, one in zip(names, parts)
@@ -126,7 +128,7 @@ class Facts:
         first = parts[0].fact
         tag = [*first.tag, " (", *names[0], "; others differ)"]
         return first._replace(form="mixed", said={"parts": said}, tag=tag, sentences=sentences, remedy=remedy,
-                              handed=sum((one.fact.handed for one in parts), ()))
+                              handed=sum((one.fact.handed for one in parts), ()), parts=parts)
 
 
 def last_name(function):
@@ -152,7 +154,8 @@ def part_of(group, names, kinds):
 
 
 def merged_groups(groups, used, facts):
-    """The groups, those of one object as one where the same threads race in it and the same is missing."""
+    """The groups, those of one object as one where the same threads race in it and the same is missing, or
+    where a lock of each variable's own is found in all together."""
     found = {}
     for number, group in enumerate(groups):
         one, thing = facts.of(group, used[number]), object_of(group)
@@ -162,7 +165,18 @@ def merged_groups(groups, used, facts):
         key = ((thing, one.fact.form, one.fact.lock, uses, racing) if thing
                and one.fact.form != "mixed" else number)
         found.setdefault(key, []).append(one)
-    return [parts[0] if len(parts) == 1 else facts.of(*as_one(parts)) for parts in found.values()]
+    merged = [parts[0] if len(parts) == 1 else facts.of(*as_one(parts)) for parts in found.values()]
+    things = {}
+    for one in merged:
+        thing = object_of(one.group) if one.fact.form == "apart" else None
+        things.setdefault(thing or id(one), []).append(one)
+    return [one for parts in things.values() for one in with_own(parts, facts)]
+
+
+def with_own(parts, facts):
+    """Groups of one object as one, if each variable has a lock of its own there; else as they are."""
+    whole = facts.of(*as_one(parts)) if len(parts) > 1 else None
+    return [whole] if whole and whole.fact.form == "without" else parts
 
 
 def as_one(parts):

@@ -9,6 +9,7 @@ from shb_common.report import Race
 from shb_common.variables import MOST_VARIABLES, atomic_of
 from shb_view.words import Code
 
+MOST_SHOWN = 64  # pairs of a group of which one is shown
 # Names as the recorder writes them: of a variable on a stack; of a member of a block's type, with the block;
 # of any other one, which may be a local `of` a function.
 ON_STACK = rb"(?s)(?P<base>stack\..*)(?P<block>)(?P<inside>-0x[0-9a-f]+)(?P<of>)"
@@ -41,9 +42,11 @@ class Group(collections.namedtuple("Group", "pairs variables names")):
         """The racing lines."""
         return {location for pair in self.pairs for location in pair.locations}
 
-    def closest(self):
-        """The listed race whose events are closest in the trace; one with a schedule if there is one."""
-        return min((pair.closest for pair in self.pairs), key=shown_first)
+    def closest(self, blamed=None):
+        """The listed race whose events are closest in the trace: one with a schedule if there is one, and at
+        the blamed line."""
+        return min((pair.closest for pair in self.pairs[:MOST_SHOWN]),
+                   key=lambda race: (race.schedule is None, blamed not in race.place, *shown_first(race)))
 
     def places(self):
         """The pairs of racing lines, in each the lesser first."""

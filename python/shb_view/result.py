@@ -30,7 +30,10 @@ def entry(view, section, pair, origin, names, variables):
     """Two lines that race: what the trace has at their locations, and what is said of their group.
     `variables` are those of each place, as `Gathered.variables` has them."""
     sites, accesses = {site.location: site for site in section.sites}, []
-    blamed = blamed_of(section.fact, pair.locations)
+    its = {name for place in pair.places for name in variables[place]}
+    parts = [part for part in section.fact.parts if not its.isdisjoint(part.group.names)]
+    of = parts[0] if len(parts) == 1 else section  # what is told of the variables that race there
+    blamed = blamed_of(of.fact, pair.locations)
     for location in pair.locations:
         found = named(location, origin, names)
         code = view.source.code(location)
@@ -42,17 +45,12 @@ def entry(view, section, pair, origin, names, variables):
                            count in section.callers.get(location, ())[:MOST_STACKS] if frames]
         accesses.append(found)
     return {"places": len(pair.places), "accesses": accesses,
-            "variables": variables_of(view, pair, variables),
+            "variables": [{"name": name} for name in sorted({result.text(without_block(view.kinds.name(name)))
+                                                             for name in its})],
             **({"blamed": named(blamed, origin, names)} if blamed else {}),
-            **({"about": flat(common_name(its))} if len(its := section.group.variables) > 1 else {}),
-            "headline": flat(section.fact.tag), "remedy": flat(section.fact.remedy),
+            **({"about": flat(common_name(of.group.variables))} if len(of.group.variables) > 1 else {}),
+            "headline": flat(of.fact.tag), "remedy": flat(of.fact.remedy),
             "facts": [flat(parts) for parts in told_of(section)]}
-
-
-def variables_of(view, pair, variables):
-    """The variables that race at two lines."""
-    names = {without_block(view.kinds.name(name)) for place in pair.places for name in variables[place]}
-    return [{"name": name} for name in sorted(map(result.text, names))]
 
 
 def named(location, origin, names):

@@ -53,7 +53,7 @@ def moves_of(found, counting):
         follows = {(word, name): counting.follows.get((word, name, site.location), {})
                    for name in names for word in (b"r", b"w")}
         moved = {number: (release, access) for access, its in follows.items()
-                 for release, number in (its or {}).items()}
+                 for release, numbers in (its or {}).items() for number in numbers}
         if None in follows.values() or not are_moved(site, found, counting, moved.keys()):
             continue
         before, after = collections.defaultdict(list), {}
@@ -214,11 +214,15 @@ def after_trials(found, facts, trials, left, again):
         facts.refuted = refuted
         facts.known.clear()
         found = again()
-    return [tried(one, facts.whole, moves, good, len(left) < len(trials)) for one in found]
+    def tried(found):
+        """A group with the remedy that was tried, or without one; of a mixed one each part."""
+        if found.fact.parts:
+            return found._replace(fact=facts.mixed(list(map(tried, found.fact.parts))))
+        return with_trial(found, facts.whole, moves, good, len(left) < len(trials))
+    return list(map(tried, found))
 
 
-def tried(found, whole, moves, good, is_too_long):
-    """A group with the remedy that was tried, or without one."""
+def with_trial(found, whole, moves, good, is_too_long):
     fact = found.fact
     move = moves.get(found.group.names)
     if move:
@@ -228,12 +232,5 @@ def tried(found, whole, moves, good, is_too_long):
     elif not all(good.get(keys_of(pairs), set()).issuperset(its) for its, pairs in fact.handed):
         fact = fact._replace(remedy=[], sentences=[*fact.sentences, *[TOO_LONG] * is_too_long])
     elif fact.handed:
-        fact = fact._replace(said=said_tried(fact.form, fact.said), remedy=[*fact.remedy, TRIED[whole]])
+        fact = fact._replace(said={**fact.said, "is_tried": True}, remedy=[*fact.remedy, TRIED[whole]])
     return found._replace(fact=fact)
-
-
-def said_tried(form, said):
-    """What a fact says, with the word that its remedy was tried."""
-    if form == "mixed":
-        return {**said, "parts": [said_tried(part["form"], part) for part in said["parts"]]}
-    return {**said, "is_tried": True} if form == "published" else said

@@ -15,9 +15,9 @@ from shb_common.words import Refused
 from shb_view.advice import advised
 from shb_view.analyser import Analyser, Verdict
 from shb_view.counting import Counting, Kinds
-from shb_view.facts import RANKS
+from shb_view.facts import RANKS, blamed_of
 from shb_view.group_facts import Facts, merged_groups
-from shb_view.groups import Gathered
+from shb_view.groups import MOST_SHOWN, Gathered
 from shb_view.names import by_numbers, readable
 from shb_view.source import Source
 from shb_view.stacks import perhaps_ordered
@@ -196,7 +196,8 @@ def make_sections(asked, kinds, made, trace, groups, unseen={}):
     first; the first MOST_DETAILED with their windows if these are asked for."""
     if not groups:
         return 0, []
-    wanted = {event for group in groups for event in group.closest().events}
+    wanted = {event for group in groups for pair in group.pairs[:MOST_SHOWN]
+              for event in pair.closest.events}
     variables = {variable: number for number, group in enumerate(groups) for variable in group.names}
     counting = Counting(variables, wanted, kinds, made.uses)
     try:
@@ -211,7 +212,8 @@ def make_sections(asked, kinds, made, trace, groups, unseen={}):
         found.sort(key=lambda it: (RANKS[it.fact.form], -it.uses.total()))
         sections = [make_section(it, counting, unseen) for it in found[:MOST_GROUPS]]
         if asked.has_windows:
-            races = [section.group.closest() for section in sections[:MOST_DETAILED]]
+            races = [section.group.closest(blamed_of(section.fact, section.group.locations()))
+                     for section in sections[:MOST_DETAILED]]
             windows = make_windows(trace, races, counting, made.given.order)
             sections[:len(races)] = [one._replace(window=window) for one, window in zip(sections, windows)]
     except (IndexError, KeyError, ValueError):
