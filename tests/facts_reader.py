@@ -667,7 +667,8 @@ class Group:
             holds = [(self.has(access, lock), access.count) for access in self.used(line)]
             return sum(count for has, count in holds if has), sum(count for _, count in holds)
         return len(self.variables) == 1 and not self.is_merged() and any(
-            counts(line, lock)[0] < counts(line, lock)[1] and self.held_count(line) < 2 * counts(line, lock)[0]
+            counts(line, lock)[0] < counts(line, lock)[1]
+            and self.held_count(line) < 2 * counts(line, lock)[0]
             and any(access.word == "w" for access in self.used(line))
             and not all(any(re.sub("[0-9]", "", other) == re.sub("[0-9]", "", lock)
                             for other in self.locks(access)) for access in self.used(line))

@@ -125,6 +125,16 @@ class Trials(program.Case):
         for words, remedy in (({}, flag), ({"f.c:2": "W"}, lock), ({"f.c:6": "R"}, lock)):
             self.assertEqual(self.group(lines, words=words)[1], remedy)
 
+    def test_no_mutex_where_an_atomic_is_updated(self):
+        """As by a spin lock of the program's own, which isn't seen."""
+        lines = [*HANDED[:2], "A|w(x)|f.c:2", "B|r(x)|f.c:6"]
+        for beside, word in (((), "lock"), (["use 4\tdoor\tA\tf.c:3\tupdate both"], "mutex"),
+                             (["use 4\tdoor\tA\tf.c:3\tstore release"], "lock")):
+            self.group(lines, beside)
+            [section] = self.view.sections
+            self.assertEqual((section.fact.tag[-1], section.fact.sentences[0][0]), (
+                f" without a {word}", f"In this run no {word} is held at any access; one thread "))
+
     def test_a_plain_write_beside_an_atomic_read(self):
         lines = [*HANDED[:2], "A|w(x)|f.c:2", "B|r(x)|f.c:6"]
         once = "access it atomically at f.c:2 too, or initialize it before creating threads."

@@ -208,10 +208,10 @@ class Locks:
     `a[3].door`, a variable's own one is that of its element, or that which most of its accesses hold; it has
     one name for all variables."""
 
-    def __init__(self, used, private, name):
+    def __init__(self, used, private, name, word):
         """`private` are locks on stacks that one thread alone uses: none of these is told. `name` gives a
-        variable as the program has it."""
-        self.own, self.private, self.name = {}, private, name
+        variable as the program has it. `word` is what is missing where none is held."""
+        self.own, self.private, self.name, self.word = {}, private, name, word
         self.has_global = any(b"#" not in it and not it.startswith(b"stack.") for it in used.variables)
         of_frees = [*itertools.chain(*used.frees.values())]
         self.locks = {variable: set().union(*(use.sums[how] for use in (*its, *of_frees) for how in HOW_HELD))
@@ -245,10 +245,10 @@ def held_in(uses):
     return found
 
 
-def sites_of(group, used, private, name):
+def sites_of(group, used, private, name, word="lock"):
     """The lines that use a group's variables: racing ones first, then those that write, then by how often;
     and their locks."""
-    racing, locks, sites = group.locations(), Locks(used, private, name), {}
+    racing, locks, sites = group.locations(), Locks(used, private, name, word), {}
     for use in itertools.chain(*used.variables.values(), *used.frees.values()):
         if use.location not in sites:
             sites[use.location] = Site(use.location)
@@ -276,7 +276,7 @@ def fact_of(sites, locks, whole, published=()):
     if of_locks and of_locks.form == "without" and any(pair.store.kind == b"update" for pair, _ in published):
         published = ()  # beside a lock what is updated is a counter
     found = (publication(published) or freed_under_lock(sites, racing, locks, whole) or freed(racing, whole)
-             or not_atomic(racing, whole) or of_locks or no_lock(sites, racing, whole))
+             or not_atomic(racing, whole) or of_locks or no_lock(sites, racing, locks.word, whole))
     if found.form != "published" or not of_locks or of_locks.form != "without":
         return found
     also = {"form": of_locks.form, **of_locks.said}  # either of the two would fix it
@@ -561,7 +561,7 @@ def apart(racing, locks, whole):
                 [] if private else ["hold one lock at ", *lines_of(racing), "."])
 
 
-def no_lock(sites, racing, whole):
+def no_lock(sites, racing, word, whole):
     """No lock is held at any access."""
     writing = [site for site in racing if site.writes()]
     readers = [site for site in racing if not site.writes()]
@@ -569,7 +569,7 @@ def no_lock(sites, racing, whole):
     verb = "writes" if len(writing) == 1 else "write"
     count = f"{len(every):,} threads" if len(every) > 1 else "one thread"
     also = [", ", *lines_of(readers), " reads" if len(readers) == 1 else " read"] if readers else []
-    sentence = [f"In this {whole} no lock is held at any access; {count} ",
+    sentence = [f"In this {whole} no {word} is held at any access; {count} ",
                 "writes, at " if len(every) == 1 else "write, at ",
                 *lines_of([*writing, *(site for site in sites if site.writes() and not site.partners)]), "."]
     said = {"writes": names_of(writing), "writers": sorted(map(text, writers))}
@@ -581,7 +581,7 @@ def no_lock(sites, racing, whole):
                    and by_numbers(reader.location or b"") < by_numbers(site.location or b"")
                    for site in writing for reader in readers)
     remedy = [(STEP if tests_it else FLAG) * is_one + "hold one lock at ", *lines_of(racing), "."]
-    tag = [*lines_of(writing), f" {verb}", *also, " without a lock"]
+    tag = [*lines_of(writing), f" {verb}", *also, f" without a {word}"]
     return Fact("no-lock", said, tag, [sentence], remedy)
 
 

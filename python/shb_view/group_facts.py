@@ -33,6 +33,8 @@ class Facts:
                         if lock.startswith(b"stack.") and len(threads) == 1}  # alone uses it
         self.refuted = set()  # variables of which a trial says that they race whatever hands them on
         stacks = self.kinds.stacks
+        # a spin lock of the program's own can't be seen
+        self.word = "mutex" if any(use.kind == b"update" for use in stacks.uses) else "lock"
         self.pairs = handed(stacks.uses, len(stacks.free_starts) > 0, stacks.lasting_locals)
         self.stores = stores_of(stacks.uses if self.again else ())
 
@@ -44,7 +46,7 @@ class Facts:
 
     def of_all(self, group, uses):
         """What holds of a group's uses, whichever variable they are of."""
-        sites, locks = sites_of(group, uses, self.private, self.kinds.name)
+        sites, locks = sites_of(group, uses, self.private, self.kinds.name, self.word)
         may_hand = self.pairs and not self.has_far(group)
         races = self.kinds.gathered.races_at(group.names) if may_hand else {}
         by = published(races, self.pairs, lambda event: self.kinds.stacks.free_of(event) is not None)

@@ -187,8 +187,7 @@ class Facts(farm.Case):
                          [("a.c:1", {"write": 1}, {"T1": 1}, 1), ("b.c:2", {"write": 1}, {"T2": 1}, 1)])
         self.assertEqual(place["facts"], ["In this trace no lock is held at any access; 2 threads write, at "
                                           "a.c:1 and b.c:2.",
-                                          "Remedy: make it atomic if it is a flag or a counter; else hold "
-                                          "one lock at a.c:1 and b.c:2."])
+                                          "Remedy: hold one lock at a.c:1 and b.c:2."])
         self.assertEqual([(trace["trace"], trace["outcome"]) for trace in found["traces"]],
                          [("clean.std", "report"), ("race.std", "report")])
         self.assertTrue(all(trace["seconds"] >= 0 and trace["MiB"] > 0 for trace in found["traces"]))
