@@ -9,6 +9,8 @@ import pty
 import pathlib
 import random
 import re
+import subprocess
+import sys
 import tempfile
 import types
 import unittest.mock
@@ -16,7 +18,7 @@ import unittest.mock
 import judge
 import program
 import shb
-from viewing import EXAMPLES, MADE, QUIET, made, run, run_here, sections, settings, windows
+from viewing import EXAMPLES, MADE, PYTHON, QUIET, made, run, run_here, sections, settings, windows
 
 from shb_common import standard
 from shb_view import command, counting, groups, names, trace, view
@@ -680,6 +682,25 @@ def source(events, e):
 
 
 class Names(program.Case):
+    def test_parts_of_names(self):
+        for name, parts in (
+                (b"stats.hits+8", (b"stats", b"", b".hits+8", b"")),
+                (b"grid[2][13].sum of main", (b"grid", b"", b"[2][13].sum", b" of main")),
+                (b"Node.next of a b.c:7#12", (b"Node", b"#12", b".next", b" of a b.c:7")),
+                (b"a.c:7#12+40", (b"a.c:7", b"#12", b"+40", b"")), (b".x[]#", (b".x[]#", b"", b"", b"")),
+                (b"stack.T1-0x10", (b"stack.T1", b"", b"-0x10", b"")), (b"", (b"",) * 4)):
+            self.assertEqual(tuple(groups.name_parts(name).values()), parts)
+
+    def test_long_names_cost_what_their_length_is(self):
+        """Some hundred thousand members, indices, blocks and places: squared they would take hours."""
+        code = ("import resource, sys; resource.setrlimit(resource.RLIMIT_CPU, (60, 60))\n"
+                "from shb_view.groups import name_parts\n"
+                "for part in (b'.a', b'[1]', b' of a:1', b'+1', b'#1', b':1'):\n"
+                "    name_parts(b'v' + part * 300_000 + b'#x')\n"
+                "    name_parts(b'v' + part * 300_000 + b'#1')")
+        ran = subprocess.run([sys.executable, "-c", code], env={**os.environ, "PYTHONPATH": str(PYTHON)})
+        self.assertEqual(ran.returncode, 0)
+
     def test_shown(self):
         for name, said in ((b"plain", "plain"), (b"\xff\x00a", r"\xff\x00a"), ("größe".encode(), "größe"),
                            (b"\x1b[2J\t\n", r"\x1b[2J\x09\x0a"), (b"\\xff", r"\\xff"), (b"a\\b", r"a\\b"),

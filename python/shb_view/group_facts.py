@@ -1,13 +1,12 @@
 """The facts of groups. One whose variables differ has a part for those that are alike."""
 
 import collections
-import re
 
 from shb_common.result import text
 from shb_common.locations import bare
 from shb_common.variables import variable_of
 from shb_view.facts import RANKS, fact_of, joined, sites_of
-from shb_view.groups import ON_STACK, Group, Pair, object_of
+from shb_view.groups import Group, Pair, name_parts, object_of
 from shb_view.handed import MOST_RACES, handed, published, stores_of
 from shb_view.words import Code, Own, listed
 
@@ -65,8 +64,8 @@ class Facts:
 
     def with_gone(self, group, fact):
         """A fact, with the lines that use a local of another thread when that has the system's ones there."""
-        found = [re.fullmatch(ON_STACK, name) for name in group.names if name.startswith(b"stack.")]
-        owners = {parts["base"][len(b"stack."):] for parts in found if parts}
+        owners = {name_parts(name)["base"][len(b"stack."):] for name in group.names
+                  if name.startswith(b"stack.")}
         if len(owners) != 1 or fact.form not in ("no-lock", "apart"):
             return fact
         [owner], lines = owners, set()

@@ -3,6 +3,7 @@ are one group."""
 
 import array
 import collections
+import functools
 import re
 
 from shb_common.report import Race
@@ -10,13 +11,8 @@ from shb_common.variables import MOST_VARIABLES, atomic_of
 from shb_view.words import Code
 
 MOST_SHOWN = 64  # pairs of a group of which one is shown
-# Names as the recorder writes them: of a variable on a stack; of a member of a block's type, with the block;
-# of any other one, which may be a local `of` a function.
-ON_STACK = rb"(?s)(?P<base>stack\..*)(?P<block>)(?P<inside>-0x[0-9a-f]+)(?P<of>)"
-INSIDE = rb"(?P<inside>(?:\.[A-Za-z_]\w*|\[[0-9]+\])*(?:\+[0-9]+)?)"
-IN_BLOCK = (rb"(?s)(?P<base>.+?)" + INSIDE
-            + rb"(?P<of> of .+(?::[0-9]+|\+0x[0-9a-f]+))(?P<block>#[0-9]+)")
-NAME = rb"(?s)(?P<base>.*?)(?P<block>#[0-9]+)?" + INSIDE + rb"(?P<of>(?: of .+)?)"
+MEMBER = rb"[A-Za-z_]\w*"
+IN_FILE = rb"(?s).(?::[0-9]+|\+0x[0-9a-f]+)\Z"  # what the name of a block ends with, before its number
 
 
 class Pair:
@@ -153,16 +149,46 @@ class Gathered:
                 for pairs, variables, names in found.values()]
 
 
+@functools.lru_cache(maxsize=1024)
 def name_parts(variable):
-    on_stack = re.fullmatch(ON_STACK, variable) if variable.startswith(b"stack.") else None
-    in_block = re.fullmatch(IN_BLOCK, variable) if b"#" in variable else None
-    return on_stack or in_block or re.fullmatch(NAME, variable)
+    """The parts of a name as the recorder writes it: its `base`, the number of its `block`, what it is
+    `inside` there, as members, and the function or the place that it is `of`."""
+    base, sign, offset = variable.rpartition(b"-0x")
+    if base.startswith(b"stack.") and re.fullmatch(rb"[0-9a-f]+", offset):
+        return {"base": base, "block": b"", "inside": sign + offset, "of": b""}
+    whole, of, where = variable.partition(b" of ")
+    if not where:
+        whole, of = variable, b""
+    where, sign, number = where.rpartition(b"#")
+    is_in_block = whole and number.isdigit() and re.search(IN_FILE, where)
+    if not is_in_block:
+        where += sign + number
+    begin = inside_at(whole, 1 if is_in_block else 0)
+    base, inside = whole[:begin], whole[begin:]
+    if not is_in_block:
+        base, sign, number = base.rpartition(b"#")
+        if not sign or not number.isdigit():
+            base, sign, number = whole[:begin], b"", b""
+    return {"base": base, "block": sign + number, "inside": inside, "of": of + where}
+
+
+def inside_at(name, least):
+    """Where the members, indices and the offset begin that a name ends with, behind so many bytes."""
+    base, sign, offset = name.rpartition(b"+")
+    at = len(base) if sign and offset.isdigit() and len(base) >= least else len(name)
+    while True:
+        is_index = name[at - 1:at] == b"]"
+        begin = name.rfind(b"[" if is_index else b".", least, at)
+        its = name[begin + 1:at - is_index]
+        if begin < 0 or not (its.isdigit() if is_index else re.fullmatch(MEMBER, its)):
+            return at
+        at = begin
 
 
 def object_of(group):
     """The block or the named object that all variables of a group are in, or None. Stacks have many."""
     parts = [name_parts(variable) for variable in group.variables]
-    things = {part["base"] + (part["block"] or b"") + part["of"] for part in parts}
+    things = {part["base"] + part["block"] + part["of"] for part in parts}
     is_known = len(things) == 1 and not parts[0]["base"].startswith(b"stack.")
     return things.pop() if is_known else None
 
@@ -174,7 +200,7 @@ def common_name(variables):
         return [Code(variables[0])]
     more = " or more" * (len(variables) >= MOST_VARIABLES)
     parts = [name_parts(variable) for variable in variables]
-    bases, blocks, insides = ({part[name] or b"" for part in parts} for name in ("base", "block", "inside"))
+    bases, blocks, insides = ({part[name] for part in parts} for name in ("base", "block", "inside"))
     functions = {part["of"] for part in parts}
     if len(bases) > 1 or len(functions) > 1:
         others = [Code(variables[1])] if len(variables) == 2 else [f"{len(variables) - 1}{more} others"]
