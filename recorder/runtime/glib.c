@@ -9,7 +9,7 @@ GIVES(g_mutex_unlock, OP_UNLOCK)
 #define LOCKS_BY_TRYING(name, try, operation) \
     TRIES_LOCK(try, operation) \
     TAKES_BY_TRYING(name, operation, REAL_AS(try)(object, 0, 0, 0), \
-                    syscall(SYS_nanosleep, &(struct timespec){.tv_nsec = 50000}, 0))
+                    SYS_nanosleep, &(struct timespec){.tv_nsec = 50000}, 0)
 LOCKS_BY_TRYING(g_rec_mutex_lock, g_rec_mutex_trylock, OP_LOCK)
 GIVES(g_rec_mutex_unlock, OP_UNLOCK)
 LOCKS_BY_TRYING(g_rw_lock_reader_lock, g_rw_lock_reader_trylock, OP_READ_LOCK)
@@ -27,8 +27,8 @@ GIVES(g_cond_broadcast, OP_USE)
 
 /* ---- queues: what is taken out comes after all that was put in before ---- */
 #define TAKES_ITEM(name, form) \
-    TAKES_BY(void *, name##form, OP_WAIT, CALLED(name##form), !r, \
-             REAL_AS(g_async_queue_try_pop##form)(object, 0, 0, 0), r)
+    TAKES_IN_TIME(void *, name##form, OP_WAIT, CALLED(name##form), !r, \
+                  REAL_AS(g_async_queue_try_pop##form)(object, 0, 0, 0), r, 0)
 #define QUEUE(form) \
     TRIES_BY(void *, g_async_queue_try_pop##form, OP_WAIT, 0, r) \
     TAKES_ITEM(g_async_queue_pop, form) \

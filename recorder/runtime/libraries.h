@@ -7,7 +7,7 @@
     TAKES_BY(void, name, operation, DONE(CALLED(name)), r, !REAL_AS(try)(object, 0, 0, 0), 1)
 #define TRIES_LOCK(name, operation) TRIES_BY(int, name, operation, 0, r)
 #define WAITS_FOR(type, name, taken, released, give, try, take, real) \
-    WAITS_BY(type, name, taken, released, DONE(give), try, take, !(real), !r)
+    WAITS_BY(type, name, taken, released, DONE(give), try, take, !(real), !r, third = fourth = 0)
 
 /* A word that the library makes ready by a store with release, and reads with acquire. Lines of a header use
    it too, so of code with hooks these are atomic accesses. Of other code they aren't recorded, for it may use

@@ -214,10 +214,34 @@ AFTER(ssize_t, getdelim, (char **s, size_t *n, int c, FILE *f), (s, n, c, f), go
 AFTER(ssize_t, __getdelim, (char **s, size_t *n, int c, FILE *f), (s, n, c, f), got_line(seen, f, s, n, r))
 AFTER(ssize_t, getrandom, (void *p, size_t n, unsigned flags), (p, n, flags), if (r > 0) WRITES(p, r))
 
-/* ---- time: some results are in the library's own memory, the same for all threads ---- */
-AFTER(time_t, time, (time_t *p), (p), WRITES(p, sizeof *p))
-AFTER(int, gettimeofday, (struct timeval *p, void *zone), (p, zone), if (!r) WRITES(p, sizeof *p))
-AFTER(int, clock_gettime, (clockid_t c, struct timespec *p), (c, p), if (!r) WRITES(p, sizeof *p))
+/* ---- clocks: what they show decides how long threads wait, so a replay shows the same; also to libraries, as
+   the C++ library asks for its callers. Memory that isn't there is a fault outside of a hook ---- */
+enum { NANOSECONDS = 1000000000 };
+static int shown(clockid_t c, struct timespec *to, uint64_t caller) {
+    int saved = errno, error;
+    thread *t = self ? enter(instrumented(caller) ? MAY_YIELD : YIELDS_BY_LIST) : 0;
+    error = REAL(clock_gettime)(c, to) ? errno : 0;
+    if (t && !error) {
+        uint64_t now = same_value(t, to->tv_sec * (uint64_t)NANOSECONDS + to->tv_nsec);
+        *to = (struct timespec){now / NANOSECONDS, now % NANOSECONDS};
+    }
+    if (t) end_copy(t), leave(t);
+    errno = error ? error : saved;
+    return error ? -1 : 0;
+}
+#define SHOWS(type, name, parameters, clock, its, result) \
+    WRAPS(type, name, parameters) { \
+        struct timespec now; \
+        uint64_t caller = CALLER, seen = others && instrumented(caller) ? caller : 0; \
+        int error = shown(clock, &now, caller); \
+        if (!error && p) *p = its; \
+        if (!error && p && seen) WRITES(p, sizeof *p); \
+        return result; \
+    }
+SHOWS(int, clock_gettime, (clockid_t c, struct timespec *p), c, now, error)
+SHOWS(time_t, time, (time_t *p), CLOCK_REALTIME_COARSE, now.tv_sec, now.tv_sec)
+SHOWS(int, gettimeofday, (struct timeval *p, void *zone), CLOCK_REALTIME,
+      ((struct timeval){now.tv_sec, now.tv_nsec / 1000}), (zone ? memset(zone, 0, 2 * sizeof error) : 0, error))
 AFTER(int, clock_getres, (clockid_t c, struct timespec *p), (c, p), if (!r) WRITES(p, sizeof *p))
 AFTER(clock_t, times, (struct tms *p), (p), if (r != -1) WRITES(p, sizeof *p))
 #define SHOWN(type, name, time, bytes) \

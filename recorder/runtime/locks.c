@@ -21,16 +21,18 @@
         let_others_run(); \
         return CALLED(name); \
     }
-#define LOCKS(name, operation, quick) \
-    TAKES_BY(int, name, operation, CALLED(name), r == EBUSY, REAL(quick)(object), !r || r == EOWNERDEAD)
+#define LOCKS_IN_TIME(name, operation, quick, late) \
+    TAKES_IN_TIME(int, name, operation, CALLED(name), r == EBUSY, REAL(quick)(object), !r || r == EOWNERDEAD, \
+                  late)
+#define LOCKS(name, operation, quick) LOCKS_IN_TIME(name, operation, quick, SLEEPING(t, CALLED(name)))
 #define TRIES_LOCK(name, operation) TRIES_BY(int, name, operation, EBUSY, !r || r == EOWNERDEAD)
 
 /* ---- locks ---- */
 /* All calls that take one, of which `try` never waits. */
 #define LOCKS_IN_ALL_WAYS(type, lock, operation) \
     LOCKS(pthread_##type##_##lock, operation, pthread_##type##_try##lock) \
-    LOCKS(pthread_##type##_timed##lock, operation, pthread_##type##_try##lock) \
-    LOCKS(pthread_##type##_clock##lock, operation, pthread_##type##_try##lock) \
+    LOCKS_IN_TIME(pthread_##type##_timed##lock, operation, pthread_##type##_try##lock, ETIMEDOUT) \
+    LOCKS_IN_TIME(pthread_##type##_clock##lock, operation, pthread_##type##_try##lock, ETIMEDOUT) \
     TRIES_LOCK(pthread_##type##_try##lock, operation)
 LOCKS_IN_ALL_WAYS(mutex, lock, OP_LOCK)
 GIVES(pthread_mutex_unlock, OP_UNLOCK)
@@ -43,14 +45,15 @@ GIVES(pthread_rwlock_unlock, OP_RW_UNLOCK)
 BEGINS(pthread_rwlock_init, OP_LOCK_INIT, 0)
 ENDS(pthread_rwlock_destroy)
 
-TAKES_BY_TRYING(pthread_spin_lock, OP_LOCK, !REAL(pthread_spin_trylock)(object), syscall(SYS_sched_yield))
+TAKES_BY_TRYING(pthread_spin_lock, OP_LOCK, !REAL(pthread_spin_trylock)(object), SYS_sched_yield)
 TRIES_LOCK(pthread_spin_trylock, OP_LOCK)
 GIVES(pthread_spin_unlock, OP_UNLOCK)
 BEGINS(pthread_spin_init, OP_LOCK_INIT, 0)
 ENDS(pthread_spin_destroy)
 
 #define C11_LOCKS(name) \
-    TAKES_BY(int, name, OP_LOCK, CALLED(name), r == thrd_busy, REAL(mtx_trylock)(object), r == thrd_success)
+    TAKES_IN_TIME(int, name, OP_LOCK, CALLED(name), r == thrd_busy, REAL(mtx_trylock)(object), \
+                  r == thrd_success, thrd_timedout)
 C11_LOCKS(mtx_lock)
 C11_LOCKS(mtx_timedlock)
 TRIES_BY(int, mtx_trylock, OP_LOCK, thrd_busy, r == thrd_success)
@@ -63,27 +66,30 @@ TRIES_BY(int, ftrylockfile, OP_LOCK, EBUSY, !r)
 GIVES(funlockfile, OP_UNLOCK)
 
 /* ---- conditions: the mutex is given up and taken again; a signal orders nothing by itself ---- */
-#define WAITS(name) \
+static const struct timespec over;     /* a time long ago */
+#define WAITS(name, time) \
     WAITS_BY(int, name, OP_LOCK, OP_UNLOCK, REAL(pthread_mutex_unlock)(lock), \
-             REAL(pthread_mutex_trylock)(lock) != EBUSY, REAL(pthread_mutex_lock)(lock), CALLED(name), r)
-WAITS(pthread_cond_wait)
-WAITS(pthread_cond_timedwait)
-WAITS(pthread_cond_clockwait)
+             REAL(pthread_mutex_trylock)(lock) != EBUSY, REAL(pthread_mutex_lock)(lock), CALLED(name), r, \
+             time = (word)&over)
+WAITS(pthread_cond_wait, third)
+WAITS(pthread_cond_timedwait, third)
+WAITS(pthread_cond_clockwait, fourth)
 GIVES(pthread_cond_signal, OP_USE)
 GIVES(pthread_cond_broadcast, OP_USE)
 ENDS(pthread_cond_destroy)
-WAITS(cnd_wait)
-WAITS(cnd_timedwait)
+WAITS(cnd_wait, third)
+WAITS(cnd_timedwait, third)
 GIVES(cnd_signal, OP_USE)
 GIVES(cnd_broadcast, OP_USE)
 ENDS(cnd_destroy)
 
 /* ---- semaphores, barriers, once ---- */
-#define WAITS_FOR_TOKEN(name) \
-    TAKES_BY(int, name, OP_WAIT, CALLED(name), r && errno == EAGAIN, REAL(sem_trywait)(object), !r)
-WAITS_FOR_TOKEN(sem_wait)
-WAITS_FOR_TOKEN(sem_timedwait)
-WAITS_FOR_TOKEN(sem_clockwait)
+#define WAITS_FOR_TOKEN(name, error) \
+    TAKES_IN_TIME(int, name, OP_WAIT, CALLED(name), r && errno == EAGAIN, REAL(sem_trywait)(object), !r, \
+                  (errno = error, -1))
+WAITS_FOR_TOKEN(sem_wait, EINTR)
+WAITS_FOR_TOKEN(sem_timedwait, ETIMEDOUT)
+WAITS_FOR_TOKEN(sem_clockwait, ETIMEDOUT)
 TRIES_BY(int, sem_trywait, OP_WAIT, (errno = EAGAIN, -1), !r)
 GIVES(sem_post, OP_POST)
 ENDS(sem_destroy)

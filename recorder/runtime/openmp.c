@@ -1,7 +1,8 @@
 /* gcc's OpenMP. Its library hands over by system calls that nobody sees; so what orders threads is told here,
    at the calls that the compiler makes into it: a region's begin and end, barriers, critical and ordered
    sections, locks and tasks. */
-#include "runtime.h"
+#include "ordering.h"
+#include <linux/futex.h>
 #include <stdbool.h>
 
 typedef char object[16];               /* its address is what it is known by */
@@ -69,7 +70,7 @@ static void end_region(team *m) {
     KEEP_ORDER();                      /* so that is a call; by a jump it would be the program's own */
 }
 
-#define CALLED(name) REAL(name)(run_region, m, a, b, c, d, e, g)
+#define RUN(name) REAL(name)(run_region, m, a, b, c, d, e, g)
 #define REGION_BY(type, name, real) \
     PUBLIC type name(function f, void *data, word a, word b, word c, word d, word e, word g) { \
         team *m = begin_region(f, data, CALLER); \
@@ -77,10 +78,10 @@ static void end_region(team *m) {
         end_region(m); \
         return (type)r; \
     }
-#define REGION(name) REGION_BY(void, name, DONE(CALLED(name)))
+#define REGION(name) REGION_BY(void, name, DONE(RUN(name)))
 REGION(GOMP_parallel) REGION(GOMP_parallel_sections)
 REGION_BY(unsigned, GOMP_parallel_reductions,
-          (m->reductions = *(void **)data, CALLED(GOMP_parallel_reductions)))
+          (m->reductions = *(void **)data, RUN(GOMP_parallel_reductions)))
 REGION(GOMP_parallel_loop_static) REGION(GOMP_parallel_loop_dynamic) REGION(GOMP_parallel_loop_guided)
 REGION(GOMP_parallel_loop_nonmonotonic_dynamic) REGION(GOMP_parallel_loop_nonmonotonic_guided)
 REGION(GOMP_parallel_loop_runtime) REGION(GOMP_parallel_loop_nonmonotonic_runtime)
@@ -118,39 +119,65 @@ PUBLIC void *GOMP_single_copy_start(void) {
 }
 BARRIER(GOMP_single_copy_end)
 
-/* ---- locks ---- */
-static object critical, atomic;
-
-static void note_lock(enum operation operation, void *lock, uint64_t caller) {
-    if (lock) note(operation, lock, caller);
-}
-
-#define LOCKS(takes, gives, its) \
-    PUBLIC void takes(void *lock) { \
-        let_others_run(); \
-        REAL(takes)(lock); \
-        note_lock(OP_LOCK, its, CALLER); \
-    } \
-    PUBLIC void gives(void *lock) { \
-        note_lock(OP_UNLOCK, its, CALLER); \
-        REAL(gives)(lock); \
-    }
-#define TESTS_LOCK(name) \
-    PUBLIC int name(void *lock) { \
-        int r = REAL(name)(lock); \
-        if (r) note(OP_LOCK, lock, CALLER); \
-        else let_others_run(); \
+/* Who comes first to a single section, or gets a loop's next part: none of these waits, and a replay has it so
+   again. */
+#define BY_TURN(name) \
+    ORDERS(word, name) { \
+        thread *t = enter(MAY_YIELD); \
+        word r = CALLED(name); \
+        if (t) leave(t); \
         return r; \
     }
-#define ORDERED (now ? (void *)now->team->ordered : 0)
-LOCKS(GOMP_critical_start, GOMP_critical_end, critical)
-LOCKS(GOMP_critical_name_start, GOMP_critical_name_end, lock)
-LOCKS(GOMP_atomic_start, GOMP_atomic_end, atomic)
-LOCKS(GOMP_ordered_start, GOMP_ordered_end, ORDERED)
-LOCKS(omp_set_lock, omp_unset_lock, lock)
-TESTS_LOCK(omp_test_lock)
-LOCKS(omp_set_nest_lock, omp_unset_nest_lock, lock)
-TESTS_LOCK(omp_test_nest_lock)
+#define PARTS(loop) BY_TURN(GOMP_##loop##_next)
+BY_TURN(GOMP_single_start)
+PARTS(loop_dynamic) PARTS(loop_guided) PARTS(loop_runtime) PARTS(sections)
+PARTS(loop_nonmonotonic_dynamic) PARTS(loop_nonmonotonic_guided) PARTS(loop_nonmonotonic_runtime)
+PARTS(loop_maybe_nonmonotonic_runtime)
+
+/* ---- locks ---- */
+/* The library's own for sections can't be tried; so these are in its place. A word is 0, or 1 if it is taken, or
+   2 if somebody may wait for it. */
+static int unnamed, atomic;
+static int try_word(int *lock) {
+    int idle = 0;
+    return __atomic_compare_exchange_n(lock, &idle, 1, 0, __ATOMIC_ACQUIRE, __ATOMIC_RELAXED);
+}
+static void take_word(int *lock) {
+    while (__atomic_exchange_n(lock, 2, __ATOMIC_ACQUIRE))
+        REAL(syscall)(SYS_futex, lock, FUTEX_WAIT_PRIVATE, 2, 0, 0, 0);
+}
+static void give_word(int *lock) {
+    if (__atomic_exchange_n(lock, 0, __ATOMIC_RELEASE) == 2)
+        REAL(syscall)(SYS_futex, lock, FUTEX_WAKE_PRIVATE, 1, 0, 0, 0);
+}
+#define SECTION(name, its) \
+    TAKES_BY(void, GOMP_##name##_start, OP_LOCK, DONE((object = (its), take_word(object))), r, \
+             (object = (its), !try_word(object)), 1) \
+    PUBLIC void GOMP_##name##_end(void *object) { \
+        object = (its); \
+        note(OP_UNLOCK, object, CALLER); \
+        give_word(object); \
+    }
+SECTION(critical, &unnamed)
+SECTION(critical_name, object)
+SECTION(atomic, &atomic)
+
+#define LOCKS(takes, try, gives) \
+    TRIES_BY(int, try, OP_LOCK, 0, r) \
+    TAKES_BY(void, takes, OP_LOCK, DONE(CALLED(takes)), r, !REAL_AS(try)(object, 0, 0, 0), 1) \
+    GIVES(gives, OP_UNLOCK)
+LOCKS(omp_set_lock, omp_test_lock, omp_unset_lock)
+LOCKS(omp_set_nest_lock, omp_test_nest_lock, omp_unset_nest_lock)
+
+PUBLIC void GOMP_ordered_start(void) {
+    let_others_run();
+    REAL(GOMP_ordered_start)();
+    if (now) note(OP_LOCK, now->team->ordered, CALLER);
+}
+PUBLIC void GOMP_ordered_end(void) {
+    if (now) note(OP_UNLOCK, now->team->ordered, CALLER);
+    REAL(GOMP_ordered_end)();
+}
 
 /* ---- tasks: a task comes after its creation, and before what waits for it ---- */
 enum { TASK_DEPENDS = 8 };             /* in its flags */

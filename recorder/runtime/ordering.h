@@ -18,8 +18,11 @@
     result_; \
 })
 /* It may wait; recorded after it, if it was done. The quick form is tried first, for it needs no hand-over.
-   In a replay it is busy where it was then; else the one that has it may be about to give it. */
+   In a replay it is busy where it was then; else the one that has it may be about to give it. Where its time ran
+   out, it is `late` there at once. */
 #define TAKES_BY(type, name, operation, real, busy, quick, done) \
+    TAKES_IN_TIME(type, name, operation, real, busy, quick, done, SLEEPING(t, real))
+#define TAKES_IN_TIME(type, name, operation, real, busy, quick, done, late) \
     ORDERS(type, name) { \
         thread *t = enter(MAY_YIELD); \
         if (!t) return (type)(real); \
@@ -30,8 +33,10 @@
             if (!is_busy) r = is_replaying ? SLEEPING(t, real) : quick; \
             if (!is_busy && busy) is_busy = note_unusual(t); \
         } while (is_busy && let_another_run(t)); \
-        if (is_busy) r = waits_for_list(t) ? SLEEPING(t, real) : BLOCKING(t, real); \
+        if (is_busy && waits_for_list(t)) r = was_unusual(t) ? (late) : SLEEPING(t, real); \
+        else if (is_busy) r = BLOCKING(t, real); \
         if (done) put(t, operation, object, 0, CALLER); \
+        else if (is_busy && !is_replaying) note_unusual(t); \
         leave(t); \
         return (type)r; \
     }
@@ -49,15 +54,8 @@
         return r; \
     }
 /* Taken by trying again and again, where the real call would be seen besides, or never sleeps. */
-#define TAKES_BY_TRYING(name, operation, try, wait) \
-    ORDERS(int, name) { \
-        thread *t = enter(MAY_YIELD); \
-        if (!t) return CALLED(name); \
-        while (!(try)) BLOCKING(t, wait); \
-        put(t, operation, object, 0, CALLER); \
-        leave(t); \
-        return 0; \
-    }
+#define TAKES_BY_TRYING(name, operation, try, ...) \
+    TAKES_BY(int, name, operation, ({ while (!(try)) REAL(syscall)(__VA_ARGS__); 0; }), r, !(try), 1)
 /* Recorded before it; never waits. */
 #define GIVES_BY(name, operation, given, before) \
     ORDERS(word, name) { \
@@ -93,8 +91,8 @@ static inline void has_woken(void *waking_) {
 })
 /* A wait on the condition, which comes first, without the lock, which comes second, by a call that returns an
    error, r, or 0. In a replay it wakes when the list says so, as a thread may that nobody woke, and takes the
-   lock with the turn. Where it had no more time it has none left either: that is waited for. */
-#define WAITS_BY(type, name, taken, released, give, try, take, error, result) \
+   lock with the turn. Where it had no more time it has none left either, by `late`. */
+#define WAITS_BY(type, name, taken, released, give, try, take, error, result, late) \
     ORDERS(type, name) { \
         void *lock = second; \
         thread *t = enter(MAY_YIELD); \
@@ -106,7 +104,7 @@ static inline void has_woken(void *waking_) {
         else { \
             waits_for_list(t); \
             if (!(try)) BLOCKING(t, DONE(take)); \
-            if (was_unusual(t)) r = SLEEPING(t, error); \
+            if (was_unusual(t)) late, r = SLEEPING(t, error); \
             put(t, taken, lock, 0, CALLER); \
             leave(t); \
         } \

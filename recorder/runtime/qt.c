@@ -7,7 +7,7 @@
 /* A deadline is two words; zeros are one that is over. */
 #define TRY(name, operation, done) TRIES_BY(bool, name, operation, 0, done)
 #define TRY_WHILE(name, operation, has_time, done) \
-    TAKES_BY(bool, name, operation, CALLED(name), !r && has_time, REAL_AS(name)(object, 0, 0, 0), done)
+    TAKES_IN_TIME(bool, name, operation, CALLED(name), !r && has_time, REAL_AS(name)(object, 0, 0, 0), done, 0)
 #define TRY_FOR(name, operation, done) TRY_WHILE(name, operation, (int)(word)second, done)
 #define TRY_UNTIL(name, operation, done) TRY_WHILE(name, operation, 1, done)
 
@@ -49,10 +49,10 @@ GIVES_BY(_ZN14QReadWriteLock6unlockEv, OP_RW_UNLOCK, object, if (written == obje
 #define ACQUIRED REAL_AS(_ZN10QSemaphore10tryAcquireEi)(object, second, 0, 0)
 TRY(_ZN10QSemaphore10tryAcquireEi, OP_WAIT, r)
 TAKES_BY(void, _ZN10QSemaphore7acquireEi, OP_WAIT, DONE(CALLED(_ZN10QSemaphore7acquireEi)), r, !ACQUIRED, 1)
-TAKES_BY(bool, _ZN10QSemaphore10tryAcquireEii, OP_WAIT, CALLED(_ZN10QSemaphore10tryAcquireEii),
-         !r && (int)third, ACQUIRED, r)
-TAKES_BY(bool, _ZN10QSemaphore10tryAcquireEi14QDeadlineTimer, OP_WAIT,
-         CALLED(_ZN10QSemaphore10tryAcquireEi14QDeadlineTimer), !r, ACQUIRED, r)
+TAKES_IN_TIME(bool, _ZN10QSemaphore10tryAcquireEii, OP_WAIT, CALLED(_ZN10QSemaphore10tryAcquireEii),
+              !r && (int)third, ACQUIRED, r, 0)
+TAKES_IN_TIME(bool, _ZN10QSemaphore10tryAcquireEi14QDeadlineTimer, OP_WAIT,
+              CALLED(_ZN10QSemaphore10tryAcquireEi14QDeadlineTimer), !r, ACQUIRED, r, 0)
 GIVES(_ZN10QSemaphore7releaseEi, OP_POST)
 
 /* ---- QWaitCondition: Qt 6 has no QMutex::lock that could be called ---- */

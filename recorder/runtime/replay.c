@@ -7,7 +7,7 @@
    number and how many steps it had made when another thread got the turn; a turn that a thread gave and got
    back is one with that before.  Who gets a lock that several want is a matter of microseconds: so where a
    thread didn't get one at once, or a wait ended otherwise than most do, a further entry has its steps so far
-   and UNUSUAL.
+   and UNUSUAL.  What a clock showed has two, each with UNUSUAL, VALUE and a half of it.
 
    PATH.turns has HEADER bytes of text (TURNS_MAGIC, "command WORD WORD..", and where the recording ended
    "whole COUNT SUM", hexadecimal, by which a copy that was cut or changed is known), and the entries of 8
@@ -20,10 +20,11 @@
 #include <fcntl.h>
 #include <sys/stat.h>
 
-#define TURNS_MAGIC ANY_TURNS "4\n"     /* another number where steps are counted otherwise */
+#define TURNS_MAGIC ANY_TURNS "5\n"     /* another number where steps are counted otherwise */
 enum { HEADER = 4096, STEP_BYTES = 1 << 20, MOST_BYTES = 128 << 20, FEW = 1 << 15 };
 
 #define UNUSUAL (1ull << 47)
+#define VALUE (1ull << 46)
 static uint64_t entry_of(const thread *t, uint64_t steps) {
     return (uint64_t)t->number << 48 | (steps & (UNUSUAL - 1));
 }
@@ -32,29 +33,31 @@ static uint64_t steps_of_entry(uint64_t entry) { return entry & (UNUSUAL - 1); }
 
 /* ---- the list that is written; under the guard where nothing else is said ---- */
 static char *header;
-static uint64_t *volatile turns;       /* 0: no more are written */
+enum { MOST_EARLY = 64 };              /* of what clocks showed before the list has a file */
+static uint64_t early[MOST_EARLY];
+static uint64_t *volatile turns = early; /* 0: no more are written */
 static volatile uint64_t count;
-static _Atomic uint64_t room;          /* turns that the file has disk space for */
+static _Atomic uint64_t room = MOST_EARLY; /* turns that the file has disk space for */
 static _Atomic int is_growing;
 static thread *runs;                   /* who got the turn last */
 
 /* By the first thread, before there is a second one; it may sleep. */
 void open_list(void) {
-    static int is_opened;
-    if (is_opened || segment_records) return;              /* of a program that runs on it would be long */
-    is_opened = 1;
+    if (turns != early) return;
+    turns = 0;
+    if (segment_records) return;       /* of a program that runs on it would be long */
     char *map = open_turns(STEP_BYTES) ? map_file(TURNS, 0, MOST_BYTES) : MAP_FAILED;
     if (map == MAP_FAILED) return;
     snprintf(map, HEADER, TURNS_MAGIC "%s", own_command());
     atomic_store(&room, (STEP_BYTES - HEADER) / sizeof *turns);
     header = map;
-    turns = (uint64_t *)(map + HEADER);
+    turns = memcpy(map + HEADER, early, sizeof early);
 }
 
 /* By a thread without the turn; it may sleep. */
 void extend_list(void) {
     uint64_t from = HEADER + atomic_load(&room) * sizeof *turns;
-    if (!turns || count + FEW < atomic_load(&room) || from >= MOST_BYTES || atomic_exchange(&is_growing, 1))
+    if (!turns || turns == early || count + FEW < atomic_load(&room) || from >= MOST_BYTES || atomic_exchange(&is_growing, 1))
         return;
     if (add_space(TURNS, from, STEP_BYTES)) atomic_fetch_add(&room, STEP_BYTES / sizeof *turns);
     atomic_store(&is_growing, 0);
@@ -63,7 +66,7 @@ void extend_list(void) {
 static void add(uint64_t entry) {
     if (!turns) return;
     if (count < atomic_load(&room)) turns[count++] = entry;
-    else turns = 0;                    /* the list ends: no entry may be missing in it */
+    else if (turns != early) turns = 0; /* the list ends: no entry may be missing in it */
 }
 
 static void add_last(void) { if (runs) add(entry_of(runs, runs->kept)); }
@@ -163,6 +166,21 @@ int next_is_unusual(const thread *t) {
 }
 
 void add_unusual(const thread *t) { add(entry_of(t, t->steps) | UNUSUAL); }
+
+/* What the list has next of this thread, or `otherwise`. */
+uint64_t next_value(const thread *t, uint64_t otherwise) {
+    const uint64_t flags = entry_of(t, VALUE) | UNUSUAL, low = at + 1 < due_count ? due[at] : 0;
+    if (!is_replaying || (low & flags) != flags || low >> 48 != t->number) return otherwise;
+    move_on();
+    const uint64_t high = due[at];
+    move_on();
+    return (low & UINT32_MAX) | high << 32;
+}
+
+void add_value(const thread *t, uint64_t value) {
+    add(entry_of(t, VALUE | (value & UINT32_MAX)) | UNUSUAL);
+    add(entry_of(t, VALUE | value >> 32) | UNUSUAL);
+}
 
 /* ---- begin ---- */
 /* The words of a command line without the folder of the program, which may have moved. */

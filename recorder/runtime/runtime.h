@@ -157,6 +157,7 @@ void keep_turn_after_call(thread *t);
 int let_another_run(thread *t);        /* if it may help; says whether */
 int note_unusual(thread *t);           /* with the turn: what was asked for wasn't there, say; returns 1 */
 int was_unusual(thread *t);            /* with the turn, in a replay: it was so at this step; else 0 */
+uint64_t same_value(thread *t, uint64_t value);              /* with the turn; in a replay that of the list */
 int waits_for_list(thread *t);         /* in a replay, in place of a call that waits; 0: the call has to */
 void note_spin(thread *t, uint64_t last);        /* in a hook that leaves the value as it was */
 /* who has the turn, where no waiter doubts that it needs it still; else NOBODY_IS_QUICK */
@@ -181,6 +182,8 @@ uint32_t due_thread(void);             /* whose turn it is */
 int steps_to_go(const thread *t);      /* in its turn, which has begun */
 int next_is_unusual(const thread *t);  /* moves on past what the list has of this step */
 void add_unusual(const thread *t);
+uint64_t next_value(const thread *t, uint64_t otherwise);
+void add_value(const thread *t, uint64_t value);
 
 #define DONE(call) ({ call; 0; })      /* of a call that returns nothing */
 /* A call that may block, made in a hook: without the turn, and its own hooks (of handlers) are recorded. */

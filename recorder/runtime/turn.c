@@ -486,6 +486,16 @@ int was_unusual(thread *t) {
     return was && note_unusual(t);
 }
 
+uint64_t same_value(thread *t, uint64_t value) {
+    lock_guard();
+    if (HOLDER(atomic_load(&turn)) == NAME(t)) {
+        value = next_value(t, value);
+        add_value(t, value);
+    }
+    unlock_guard();
+    return value;
+}
+
 int waits_for_list(thread *t) {
     if (!is_replaying) return 0;
     t->idles = 1;

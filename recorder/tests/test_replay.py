@@ -18,7 +18,8 @@ class Replays(recorder.Case):
     def program(self, name="rare.c", *words, folder="."):
         out = self.folder / folder / name.split(".")[0]
         out.parent.mkdir(exist_ok=True)
-        recorder.must(recorder.call("gcc", "-w", "-g", "-O1", "-fsanitize=thread", "-pthread", *words,
+        compiler = "g++" if name.endswith(".cc") else "gcc"
+        recorder.must(recorder.call(compiler, "-w", "-g", "-O1", "-fsanitize=thread", "-pthread", *words,
                                     recorder.PROGRAMS / name, "-o", out))
         return out
 
@@ -114,6 +115,22 @@ class Replays(recorder.Case):
         self.assertLessEqual(int(left[2]), len(turns) / 8)
         recorder.must(recorder.convert(self.folder / "again.rec"))  # it is whole
 
+    def follows_ten_lists(self, name, *words):
+        program = self.program(name, *words)
+        for seed in range(1, 11):
+            first = recorder.must(recorder.call(program, env=self.settings("first", seed)))
+            how = self.settings("second", seed + 20, SHB_REPLAY=str(self.folder / "first.turns"))
+            again = recorder.must(recorder.call(program, env=how))
+            self.assertEqual((again.stdout, again.stderr), (first.stdout, b""), f"seed {seed}")
+            lists = {(self.folder / f"{ran}.turns").read_bytes()[HEADER:] for ran in ("first", "second")}
+            self.assertEqual(len(lists), 1, f"seed {seed}")
+
+    def test_what_clocks_showed_and_whose_time_ran_out(self):
+        self.follows_ten_lists("timed.cc")
+
+    def test_sections_and_loops_of_openmp(self):
+        self.follows_ten_lists("openmp_critical.c", "-fopenmp")
+
     def test_a_thread_that_is_due_waits_for_input(self):
         """It had its line at once when the list was written, and the other thread was still at work then:
         else nobody waits for it."""
@@ -164,7 +181,7 @@ class Replays(recorder.Case):
         self.run_it("first", 5, program)
         content = (self.folder / "first.turns").read_bytes()
         self.assertRegex(content, rb"\Ashb-turns \d+\n")
-        path.write_bytes(b"shb-turns 2\n" + content.partition(b"\n")[2])
+        path.write_bytes(b"shb-turns 4\n" + content.partition(b"\n")[2])
         said, _ = self.run_it("again", 5, program, replay="old")
         self.assertEqual(said, f"shb recorder: {path} is not followed: another version of the recorder wrote "
                                "it\n")
