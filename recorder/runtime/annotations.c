@@ -71,12 +71,16 @@ PUBLIC void *__tsan_create_fiber(unsigned flags) {
     size_t size = MOST_FRAMES * sizeof(frame);
     fiber *new = __libc_malloc(sizeof *new);
     frame *frames = mmap(0, size, PROT_READ | PROT_WRITE, NEW_MEMORY, -1, 0);
-    if (!new || frames == MAP_FAILED) abort();
+    if (!new || frames == MAP_FAILED) {                      /* whose accesses would be another's */
+        stop_recording("there is no memory for a fiber");
+        return 0;
+    }
     *new = (fiber){frames, 0};
     note_where_made(new, CALLER, (uint64_t)__tsan_create_fiber + 1);
     return new;
 }
 PUBLIC void __tsan_destroy_fiber(void *old) {
+    if (!old) return;
     munmap(((fiber *)old)->frames, MOST_FRAMES * sizeof(frame));
     __libc_free(old);
 }
@@ -89,6 +93,7 @@ static void take_functions_of(fiber *next) {
     set_depth(t, next->depth);
 }
 PUBLIC void __tsan_switch_to_fiber(void *next, unsigned flags) {
+    if (!next) return;
     if (!(flags & NO_ORDER)) {
         note(OP_POST, next, CALLER);
         note(OP_WAIT, next, CALLER);

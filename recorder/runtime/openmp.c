@@ -28,6 +28,13 @@ typedef struct task {
 
 static __thread task *now;             /* this thread's task; of a region a task for each thread */
 
+/* Without memory nothing is recorded from there on, and the library runs the program's functions. */
+static void *new_zeros(size_t size) {
+    void *p = calloc(1, size);
+    if (!p) stop_recording("there is no memory to follow OpenMP");
+    return p;
+}
+
 static void leave_task(task *t) {
     while (t && atomic_fetch_sub(&t->users, 1) == 1) {
         task *parent = t->parent;
@@ -39,10 +46,8 @@ static void leave_task(task *t) {
 /* ---- regions ---- */
 static void run_region(void *team_) {
     team *m = team_;
-    task *before = now, *own = calloc(1, sizeof *own);
-    if (!own) abort();
-    own->users = 1;
-    own->team = m;
+    task *before = now, *own = new_zeros(sizeof *own);
+    if (own) *own = (task){.users = 1, .team = m};
     now = own;
     note(OP_WAIT, m->begin, m->caller);
     m->function(m->data);
@@ -53,8 +58,8 @@ static void run_region(void *team_) {
 }
 
 static team *begin_region(function f, void *data, uint64_t caller) {
-    team *m = calloc(1, sizeof *m);
-    if (!m) abort();
+    team *m = new_zeros(sizeof *m);
+    if (!m) return 0;
     m->function = f;
     m->data = data;
     m->caller = caller;
@@ -64,13 +69,15 @@ static team *begin_region(function f, void *data, uint64_t caller) {
 }
 
 static void end_region(team *m) {
-    note(OP_WAIT, m->end, m->caller);
-    note(OP_WAIT, m->tasks, m->caller);
+    if (m) {
+        note(OP_WAIT, m->end, m->caller);
+        note(OP_WAIT, m->tasks, m->caller);
+    }
     free(m);
     KEEP_ORDER();                      /* so that is a call; by a jump it would be the program's own */
 }
 
-#define RUN(name) REAL(name)(run_region, m, a, b, c, d, e, g)
+#define RUN(name) REAL(name)(m ? run_region : f, m ? m : data, a, b, c, d, e, g)
 #define REGION_BY(type, name, real) \
     PUBLIC type name(function f, void *data, word a, word b, word c, word d, word e, word g) { \
         team *m = begin_region(f, data, CALLER); \
@@ -81,7 +88,7 @@ static void end_region(team *m) {
 #define REGION(name) REGION_BY(void, name, DONE(RUN(name)))
 REGION(GOMP_parallel) REGION(GOMP_parallel_sections)
 REGION_BY(unsigned, GOMP_parallel_reductions,
-          (m->reductions = *(void **)data, RUN(GOMP_parallel_reductions)))
+          (m ? m->reductions = *(void **)data : 0, RUN(GOMP_parallel_reductions)))
 REGION(GOMP_parallel_loop_static) REGION(GOMP_parallel_loop_dynamic) REGION(GOMP_parallel_loop_guided)
 REGION(GOMP_parallel_loop_nonmonotonic_dynamic) REGION(GOMP_parallel_loop_nonmonotonic_guided)
 REGION(GOMP_parallel_loop_runtime) REGION(GOMP_parallel_loop_nonmonotonic_runtime)
@@ -200,10 +207,10 @@ static void run_task(void *handed_) {
     leave_task(t);
 }
 
-/* The task with its data after it, as the library would copy it. */
+/* The task with its data after it, as the library would copy it; null outside a region. */
 static task *new_task(function f, void *data, copy_function copy, long size, long align) {
-    task *t = calloc(1, sizeof *t + size + align);
-    if (!t) abort();
+    task *t = now ? new_zeros(sizeof *t + size + align) : 0;
+    if (!t) return 0;
     t->data = (void *)(((uintptr_t)(t + 1) + align - 1) / align * align);
     if (copy) copy(t->data, data);
     else memcpy(t->data, data, size);
@@ -217,11 +224,11 @@ static task *new_task(function f, void *data, copy_function copy, long size, lon
 
 PUBLIC void GOMP_task(function f, void *data, copy_function copy, long size, long align, bool deferred,
                       unsigned flags, void **depend, int priority, void *detach) {
-    if (!now) {                        /* outside a region it runs at once */
+    task *t = new_task(f, data, copy, size, align > 0 ? align : 1);
+    if (!t) {                          /* outside a region it runs at once */
         REAL(GOMP_task)(f, data, copy, size, align, deferred, flags, depend, priority, detach);
         return;
     }
-    task *t = new_task(f, data, copy, size, align > 0 ? align : 1);
     t->caller = CALLER;
     t->depends = (flags & TASK_DEPENDS) != 0;
     note(OP_POST, t->begin, CALLER);

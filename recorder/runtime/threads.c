@@ -55,7 +55,7 @@ static void begin_thread(thread *t, uint64_t function) {
 static void release_robust(const thread *t) {
     struct robust_list_head *all;
     size_t size;
-    if (syscall(SYS_get_robust_list, 0, &all, &size)) return;
+    if (syscall(SYS_get_robust_list, 0, &all, &size) || !all) return; /* a sandbox may refuse to have one */
     for (uint64_t next = (uint64_t)all->list.next & ~1ull; next != (uint64_t)all; next = *(uint64_t *)next
          & ~1ull)
         note(OP_UNLOCK, (void *)(next + all->futex_offset), (uint64_t)t->function + 1);

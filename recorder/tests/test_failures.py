@@ -66,6 +66,27 @@ class Failures(recorder.Case):
         self.assertIn(b"is not the whole run: the limit of a file's size",
                       recorder.part(recorder.convert(path)).stderr)
 
+    def test_memory_is_refused_for_what_follows_openmp_or_a_fiber(self):
+        """The recording ends, unless OpenMP's own library ends the program."""
+        program, told = self.program("openmp_refused.c"), 0
+        for words, refused in [("", k) for k in range(8)] + [("fiber", 0)]:
+            ran = recorder.call(program, *words.split(),
+                                env=recorder.settings(self.folder / f"{words}{refused}.rec",
+                                                      REFUSED=str(refused)))
+            if b"libgomp: Out of memory" not in ran.stderr:
+                self.assertEqual((ran.returncode, ran.stdout), (0, b"300 12\n"), refused)
+                told += ran.stderr.endswith(b"the recording ends here, the program goes on\n")
+        self.assertGreater(told, 4)
+
+    def test_a_list_of_robust_locks_is_refused(self):
+        """As sandboxes do it. Threads have none then, and end."""
+        refuse, number = self.folder / "refuse", "273"  # of set_robust_list
+        recorder.must(recorder.call("gcc", "-O1", recorder.HERE / "refuse_call.c", "-o", refuse))
+        ran = recorder.must(recorder.call(refuse, number, self.program("short_threads.c"),
+                                          env=recorder.settings(self.folder / "app.rec")))
+        self.assertEqual(ran.stderr, b"")
+        recorder.must(recorder.convert(self.folder / "app.rec"))
+
     def refusing(self):
         """A library to be preloaded that refuses disk space."""
         refuse, source = self.folder / "refuse.so", recorder.HERE / "refuse_space.c"

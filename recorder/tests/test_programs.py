@@ -64,7 +64,8 @@ def load_tests(loader, tests, pattern):
               "members.c", "members.cc", "elements.c", "blocks.cc", "allocated.cc", "allocator.c",
               "replaced.cc", "pretended.c", "rights.c", "forms.cc", "locals.c", "waits.c", "starves.c",
               "unseen_threads.c", "crash.c", "private_memory.c", "rare.c", "asleep.c", "room.c",
-              "woken_threads.c", "wanted_lock.c", "crowd.c", "among_many.c"}
+              "woken_threads.c", "wanted_lock.c", "crowd.c", "among_many.c",
+              "openmp_refused.c"}
     others |= {"container_uses.cc", "vector_bits.cc", "own_members.cc", "heap_objects.c", "used.c", "used.cc"}
     suite = unittest.TestSuite()
     for source in sources:
