@@ -166,7 +166,7 @@ class Recipes(installing.Case):
         for part in ("part1", "part2"):
             shutil.copytree(self.folder / "races", self.folder / part)
         call("sh", "-c", join, status=66, **how)
-        self.assertIn('href="../part2/run', (self.folder / "all/index.html").read_text())
+        self.assertIn('href="../part1/run', (self.folder / "all/index.html").read_text())
         shutil.copy(self.folder / "races/unknown.places", self.folder / "known.places")
         call("sh", "-c", found[1], **how)
         self.assertIn(
