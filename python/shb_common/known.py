@@ -74,11 +74,6 @@ def written(name):
     return name.replace(b"\t", b"\\t").replace(b"\n", b"\\n").replace(b"\r", b"\\r")
 
 
-def side_of(location, functions=()):
-    """A location and its functions, `FILE:FUNCTION()`, as the file has them."""
-    return Side((written(location),), tuple((written(function),) for function in sorted(functions)))
-
-
 def line_of_fields(first, second, variable):
     line = b"\t".join([*sorted((first, second)), variable])
     return (b"\\" if line.lstrip(b"\\").startswith(b"#") else b"") + line + b"\n"

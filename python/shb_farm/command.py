@@ -15,7 +15,7 @@ from shb_common.parts import ANALYSER, NO_ANALYSER
 from shb_common.sources import Sources
 from shb_common.standard import open_standard_files, tell, words_of, write_texts
 from shb_common.words import Refused, counted
-from shb_farm import engines, merging, outcomes, passes, since, tables, traces
+from shb_farm import engines, merging, outcomes, passes, tables, traces
 from shb_farm.calls import Calls
 
 ABOUT = """\
@@ -64,8 +64,7 @@ Exit status:
   Several may be true. A script asks for one by its line in OUT/facts.tsv, a
   name, a tab and a number: traces, reports, refused, missing, damaged (call
   stacks), places, unknown, known, stale (lines of known places), unreported
-  (places whose report is missing), and with --since new, gone, same. For
-  example
+  (places whose report is missing). For example
 
       awk '$1 == "refused" && $2 > 0 { bad = 1 } END { exit bad }' out/facts.tsv
 
@@ -79,8 +78,6 @@ def arguments(words):
     parser.add_argument("--known", metavar="FILE", help="places to skip")
     parser.add_argument("--fail-on-stale", action="store_true",
                         help="end with status 1 if a line of --known matched nothing")
-    parser.add_argument("--since", metavar="OLD", help="report which places are new, gone and the same since "
-                        "an earlier result: the folder OUT of a farm, or a places.json")
     parser.add_argument("--links", action="store_true", help="follow links that lead out of TRACES")
     parser.add_argument("--source", metavar="DIR",
                         help="the repository: places.sarif names its files if it finds them")
@@ -171,7 +168,6 @@ def run(options):
     if options.source and not os.path.isdir(options.source):
         raise Refused(f"{options.source}: no such folder of sources")
     known_places = known.given(options.known, engines.say)
-    earlier = since.read(options.since) if options.since else None
     with passes.room_in(os.path.realpath(options.out)) as room:
         work = pass_of(options, room)
         names, outside = traces.names_in(work.traces, work.out, work.links)
@@ -181,7 +177,7 @@ def run(options):
         endings, calls = run_pass(options, work, names, outside), Calls(work.traces, work.links)
         rows, files = merging.rows_of(endings, known_places, calls)
         rows = with_reports(options, work, rows)
-        found = found_of(options, rows, endings, known_places, len(calls.damaged), earlier)
+        found = found_of(options, rows, endings, known_places, len(calls.damaged))
         for words in known.words_of_stale(found.stale, files):
             engines.say(f"{options.known}, {words}")
         unseen = merging.unseen(endings)
@@ -193,13 +189,11 @@ def run(options):
         return found.status
 
 
-def found_of(options, rows, endings, known_places, damaged, earlier):
+def found_of(options, rows, endings, known_places, damaged):
     """All that was found. Which known lines are stale isn't known unless the places of all traces are."""
-    compared = None if earlier is None else since.compared(options.since, earlier, rows)
     stale = [] if merging.unseen(endings) else known_places.stale()
-    facts = merging.facts_of(rows, endings, len(stale), damaged, compared)
-    return tables.Found(rows, endings, facts, stale, compared,
-                        merging.status_of(facts, options.fail_on_stale))
+    facts = merging.facts_of(rows, endings, len(stale), damaged)
+    return tables.Found(rows, endings, facts, stale, merging.status_of(facts, options.fail_on_stale))
 
 
 def main(words):

@@ -67,18 +67,15 @@ def named(place, local_of):
                                      for variable, events in place.variables.items()})
 
 
-def facts_of(rows, endings, stale, damaged, since):
+def facts_of(rows, endings, stale, damaged):
     kinds = [ending.kind for ending in endings.values()]
     unknown = sum(row.places for row in rows if not row.is_known)
     places, reports = sum(row.places for row in rows), kinds.count("report")
     missing = kinds.count("missing")
-    facts = {"traces": len(kinds), "reports": reports, "refused": len(kinds) - reports - missing,
-             "missing": missing, "damaged": damaged, "places": places, "unknown": unknown,
-             "known": places - unknown, "stale": stale,
-             "unreported": sum(row.report == "missing" for row in rows)}
-    if since is not None:
-        facts.update(new=since.new, gone=len(since.gone), same=since.same)
-    return facts
+    return {"traces": len(kinds), "reports": reports, "refused": len(kinds) - reports - missing,
+            "missing": missing, "damaged": damaged, "places": places, "unknown": unknown,
+            "known": places - unknown, "stale": stale,
+            "unreported": sum(row.report == "missing" for row in rows)}
 
 
 def unseen(endings):

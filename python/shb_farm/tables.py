@@ -13,13 +13,9 @@ WIDEST = 60         # columns of the text's tables; a longer field moves what st
 MOST_NAMED = 3      # variables in a table
 
 
-class Found(collections.namedtuple("Found", "rows endings facts stale since status")):
-    """What a farm has found: a row for each two locations, how each trace ended, the facts as numbers, the
-    lines of the known places that matched nothing, what is new since an earlier farm or None, the status."""
-
-    def state_since(self, row):
-        """Whether a row is new or the same; nothing where that isn't asked."""
-        return self.since.states[row.key] if self.since else ""
+# What a farm has found: a row for each two locations, how each trace ended, the facts as numbers, the lines
+# of the known places that matched nothing, the status.
+Found = collections.namedtuple("Found", "rows endings facts stale status")
 
 
 def field(text):
@@ -36,10 +32,10 @@ def variables_of(row):
 
 def places_table(found):
     """A line for each two locations; FARM.md has its fields."""
-    lines = [b"traces\tstate\tfirst\tsecond\texample\treport\tplaces\tvariables\tsince\n"]
+    lines = [b"traces\tstate\tfirst\tsecond\texample\treport\tplaces\tvariables\n"]
     for row in found.rows:
         fields = [b"%d" % row.traces, field(row.state()), *row.names, field(row.example), field(row.report),
-                  b"%d" % row.places, variables_of(row), field(found.state_since(row))]
+                  b"%d" % row.places, variables_of(row)]
         lines.append(b"\t".join(fields) + b"\n")
     return b"".join(lines)
 
@@ -80,18 +76,14 @@ def text(found):
     """What is printed: the numbers, the places, traces without a report, and those with something to know."""
     names = ("traces", "reports", "refused", "missing"), ("places", "unknown", "known")
     lines = [" ".join(f"{name} {found.facts[name]}" for name in of_line) for of_line in names]
-    head, gone = [b"traces", b"state", b"first", b"second", b"variables", b"example",
-                  b"since" if found.since else b""], []
-    rows = [[b"%d" % row.traces, field(row.state()), *row.names, variables_of(row), field(row.example),
-             field(found.state_since(row))] for row in found.rows]
-    if found.since:
-        lines.append("since {}: new {new} gone {gone} same {same}".format(found.since.name, **found.facts))
-        gone = [[b"gone", *map(os.fsencode, words)] for words in found.since.gone]
+    head = [b"traces", b"state", b"first", b"second", b"variables", b"example"]
+    rows = [[b"%d" % row.traces, field(row.state()), *row.names, variables_of(row), field(row.example)]
+            for row in found.rows]
     lost = [[b"missing" if ending.kind == "missing" else b"refused", field(name), field(why(ending))]
             for name, ending in found.endings.items() if ending.kind != "report"]
     noted = [[b"report", field(name), field(note_of(ending))]
              for name, ending in found.endings.items() if note_of(ending)]
-    for table in ([head, *rows] if rows else [], gone, lost, noted):
+    for table in ([head, *rows] if rows else [], lost, noted):
         lines += ["", *aligned(table)] if table else []
     return "".join(line + "\n" for line in lines)
 
@@ -101,8 +93,7 @@ def document(found, entries):
                **({"seconds": ending.cost.seconds, "MiB": ending.cost.kib // 1024} if ending.cost else {})}
               for name, ending in found.endings.items()]
     places = [result.entry(row, result.entry_of(entries, row), traces=row.traces,
-                           example=result.text(os.fsencode(row.example)),
-                           **({"since": found.state_since(row)} if found.since else {}))
+                           example=result.text(os.fsencode(row.example)))
               for row in found.rows]
     return result.document("shb-farm", {**found.facts, "status": found.status}, places,
                            stale=result.stale_of(found.stale), traces=traces)

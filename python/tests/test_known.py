@@ -2,8 +2,8 @@
 
 import side_by_side
 from shb_common import known
-from shb_common.known import (BadLine, Known, lasting, line_of_fields, lines_of, matches,
-                              pieces_of, side_of, words_of_stale, written)
+from shb_common.known import (BadLine, Known, Side, lasting, line_of_fields, lines_of, matches, pieces_of,
+                              words_of_stale, written)
 from shb_common.programs import Names
 
 FILE = b"""\
@@ -16,6 +16,11 @@ pool.c:*\t*\t*
 a[0].c:?\tz\t*
 a[0].c:*\ty.\t*
 """
+
+
+def side_of(location, functions=()):
+    """A location and its functions, as the file has them."""
+    return Side((written(location),), tuple((written(function),) for function in sorted(functions)))
 
 
 def sides(*pair, functions=None):

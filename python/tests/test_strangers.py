@@ -9,6 +9,8 @@ import sys
 
 import farm
 from farm import BAD, CLEAN, OTHER_ORDER, RACE
+from shb_common import result
+from shb_common.words import Refused
 from shb_farm import passes, traces
 from shb_farm.passes import Pass
 
@@ -143,19 +145,13 @@ class Facts(farm.Case):
         self.trace("moved.std", b"T1|w(x)|a.c:15\nT2|w(x)|a.c:16\n")
         self.trace("moved.stacks", stacks(15, 16))
         self.trace("new.std", b"T1|w(n)|a.c:15\nT2|w(n)|n.c:2\n")
-        answer = self.farm("--since", old)
-        self.assertEqual(answer.out.splitlines()[2], f"since {old}: new 1 gone 1 same 2", answer.out)
-        self.assertIn("\n\ngone  g.c:1  g.c:2  g\n", answer.out)
-        self.assertEqual({row[4]: row[8] for row in self.table("places.tsv")},
-                         {"race.std": "same", "moved.std": "same", "new.std": "new"})
-        self.assertEqual(
-            {name: self.facts()[name] for name in ("new", "gone", "same")}, {"new": 1, "gone": 1, "same": 2})
-        self.assertEqual({place["example"]: place["since"]
-                          for place in json.loads((self.out / "places.json").read_text())["places"]},
-                         {"race.std": "same", "moved.std": "same", "new.std": "new"})
+        answer = self.farm("--known", old / "unknown.places")
+        self.assertEqual({row[4]: row[1] for row in self.table("places.tsv")},
+                         {"race.std": "known", "moved.std": "known", "new.std": "unknown"})
+        [gone] = [line for line in answer.err.splitlines() if "matched nothing" in line]
+        self.assertIn("g.c:1", gone)
 
     def test_an_earlier_result_that_is_none(self):
-        self.trace("race.std", RACE)
         path = self.folder / "old.json"
         none = "this is no places.json of `shb-farm` or `shb-record`\n"
         for text, said in ((b"", none), (b"int main;", none), (b"{}", "a part of it is missing"),
@@ -165,10 +161,10 @@ class Facts(farm.Case):
                            (b'{"form": "shb-places", "version": 1, "places": [{"accesses": 3}]}',
                             "a part of it is missing")):
             path.write_bytes(text)
-            answer = self.farm("--since", path)
-            self.assertEqual((answer.status, answer.out, answer.err.startswith(f"shb-farm: {path}: "),
-                              said in answer.err), (4, "", True, True), answer.err)
-        self.assertEqual(self.farm("--since", self.folder / "none").status, 4)
+            with self.assertRaises(Refused) as refused:
+                result.read(path)
+            self.assertTrue(str(refused.exception).startswith(f"{path}: "))
+            self.assertIn(said.rstrip("\n"), str(refused.exception))
 
     def test_results_for_programs(self):
         """Of an unknown place they have what the view says of the example."""
