@@ -82,7 +82,7 @@ def unnamed_file():
     """A new open file for some words: in memory, if this Python was built for that."""
     if hasattr(os, "memfd_create"):
         return open(os.memfd_create("words"), "w+b")
-    import tempfile  # takes its time
+    import tempfile  # is slow to import
     return tempfile.TemporaryFile()
 
 

@@ -15,7 +15,7 @@ OF_OTHERS = {"--suppressions": "--known", "--baseline": "--known", "--repeat": "
 
 def filled(text):
     """A text with its paragraphs filled to 80 columns, but those with a line that begins with a blank."""
-    import textwrap  # takes its time, and is for help alone
+    import textwrap  # is slow to import, and is for help alone
     return "\n\n".join(part if "\n " in f"\n{part}"
                        else textwrap.fill(part, COLUMNS, break_long_words=False, break_on_hyphens=False)
                        for part in text.strip("\n").split("\n\n"))
@@ -49,7 +49,7 @@ class Parser(argparse.ArgumentParser):
 
     def nearest(self, word):
         """The option that a word may stand for, by its letters or by what other tools call it."""
-        import difflib  # takes its time, and is for wrong words alone
+        import difflib  # is slow to import, and is for wrong words alone
         mine = [name for action in self._actions for name in action.option_strings if name.startswith("--")]
         bare = word.partition("=")[0]
         others = OF_OTHERS.get(bare)

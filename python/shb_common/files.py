@@ -27,7 +27,7 @@ def read_at_most(path, most):
 @contextlib.contextmanager
 def temporary_file(folder):
     """A new open file and its path; it is deleted at the end if it is still there. Flush what counts."""
-    import tempfile  # takes its time, and a usual recording does without
+    import tempfile  # is slow to import, and a usual recording does without
     number, path = tempfile.mkstemp(dir=folder)
     file = open(number, "w+b")
     try:

@@ -18,7 +18,7 @@ MOST_EVENTS = 1_000     # of a schedule that is given as a list
 LONGEST = 60        # columns of a line that a refusal shows
 Counts = collections.namedtuple("Counts", "events threads locks variables")  # what a trace has
 
-# The fields of an event's line. `name` is what stands in the parentheses, nothing for a mark.
+# The fields of an event's line. `name` is in the parentheses; nothing for a mark.
 Access = collections.namedtuple("Access", "thread word name location")
 
 # How many events a schedule has, and which; None of more than MOST_EVENTS.

@@ -36,7 +36,7 @@ BASES = {BASE: "The folder that relative file names start from: the repository."
 FOUND, RELATIVE, ABSOLUTE, NAME = range(4)
 
 PLAIN = str.maketrans({sign: f"\\{sign}" for sign in "\\[]"})
-OTHERS = {1: "The other access.", 2: "An access."}   # what is related to a result
+RELATED = {1: "The other access.", 2: "An access."}     # what a location is, by how many are related
 MOST_NAMED = 3          # variables in a message
 
 # An access of a race: its thread, what it does, its stack, the innermost frame first, and the path of each
@@ -96,7 +96,7 @@ def uri_of(path, base):
     """A file name as a URI reference; a relative one counts from a base."""
     path = posixpath.normpath(path)
     if not re.fullmatch(rb"[\w./~-]*", path):
-        import urllib.parse  # takes its time, and most paths do without
+        import urllib.parse  # is slow to import, and most paths do without
         path = urllib.parse.quote_from_bytes(path, safe="/").encode()
     if path.startswith(b"/"):
         return {"uri": "file://" + path.decode().replace("//", "/", 1)}
@@ -124,7 +124,7 @@ def named(place):
 
 
 def fingerprint(parts, between=b"\t", size=16):
-    from shb_common.sums import blake2b  # takes its time, and most calls have no place
+    from shb_common.sums import blake2b  # is slow to import, and most calls have no place
     return blake2b(between.join(parts), digest_size=size).hexdigest()
 
 
@@ -157,8 +157,9 @@ def thread_flow(access, sources):
             "locations": steps}
 
 
-def message_of(alert, blamed, others):
-    links = [f"[{plain(named(place))}]({number})" for number, place in enumerate(others, 1)]
+def message_of(alert, blamed, related):
+    """The message, in which the related locations are links by their numbers."""
+    links = [f"[{plain(named(place))}]({number})" for number, place in enumerate(related, 1)]
     sides = links if len(links) > 1 else [plain(named(blamed)), *links]
     variables = list(map(printable, alert.variables))
     names = [f"`{name}`" for name in variables[:MOST_NAMED]]
@@ -179,15 +180,15 @@ def result_of(alert, sources, seen):
         seen[by_lines] += 1
         prints["primaryLocationLineHash"] = f"{by_lines}:{seen[by_lines]}"
     blamed = place_of(alert.blamed[0], sources, alert.blamed[1]) if alert.blamed else both[0]
-    others = [place for place in both if place.text != blamed.text] or both[1:]
+    related = [place for place in both if place.text != blamed.text] or both[1:]
     return {
         "ruleId": RULE["id"],
         "ruleIndex": 0,
         "level": "error",
-        "message": {"text": message_of(alert, blamed, others)},
+        "message": {"text": message_of(alert, blamed, related)},
         "locations": [primary_of(blamed, alert.example)],
-        "relatedLocations": [location_of(place, id=number, message={"text": OTHERS[len(others)]})
-                             for number, place in enumerate(others, 1)],
+        "relatedLocations": [location_of(place, id=number, message={"text": RELATED[len(related)]})
+                             for number, place in enumerate(related, 1)],
         "partialFingerprints": prints,
         "suppressions": SUPPRESSIONS if alert.row.is_known else [],
         "properties": {**alert.properties, "variables": [printable(name) for name, _ in alert.row.variables]},

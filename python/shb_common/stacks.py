@@ -36,10 +36,10 @@ class BadStacks(Exception):
 
 class AtomicUse(collections.namedtuple("AtomicUse", "event name thread location kind order is_again")):
     """A use of an atomic before an event: `kind` is load, store, update or, without a name, fence; `order`
-    relaxed, acquire, release or both; `is_again` says that it stands for omitted ones before it too."""
+    relaxed, acquire, release or both; `is_again` says that it represents omitted ones before it too."""
 
     def gives(self):
-        """Whether what stands before it is ordered before what takes the value."""
+        """Whether it releases: what comes before it is ordered before an acquire of its value."""
         return self.order in (b"release", b"both")
 
     def takes(self):

@@ -13,7 +13,7 @@ def counted(count, word, words=None):
 
 
 def in_html(text):
-    """As `html.escape`, whose module takes its time."""
+    """As `html.escape`, whose module is slow to import."""
     return text.translate(SIGNS)
 
 

@@ -4,8 +4,8 @@
     job.py PASS EVERY [FIRST]
 
 PASS is the file of the pass. Of its traces, each EVERY-th is run, from number FIRST on, or from
-SLURM_ARRAY_TASK_ID. Run twice, even at once, it does no harm: an outcome that stands isn't made again. The
-status is 0, or 1 if a trace got no outcome that stands.
+SLURM_ARRAY_TASK_ID. Run twice, even at once, it does no harm: a valid outcome isn't made again. The
+status is 0, or 1 if a trace got no valid outcome.
 """
 
 import os
@@ -24,11 +24,11 @@ from shb_farm.running import METER
 
 
 def make_outcome(work, name):
-    """Makes the outcome of a trace, unless there is one that stands. Returns its kind. If the trace changes
+    """Makes the outcome of a trace, unless there is a valid one. Returns its kind. If the trace changes
     meanwhile, the outcome has the stamp of before, and doesn't count."""
     path, place = pathlib.Path(work.traces) / name, passes.outcome_path(work.out, work.form, name)
     old, stamp = outcomes.read(place, name), outcomes.stamp_of(os.stat(path))
-    if old and old.stamp == stamp and passes.stands(old, work, name):
+    if old and old.stamp == stamp and passes.is_valid(old, work, name):
         return old.kind
     if not work.links and not traces.is_below(os.path.realpath(path), work.traces):
         raise running.NotHere(traces.LEADS_OUT)
@@ -36,7 +36,7 @@ def make_outcome(work, name):
     with open_regular(path) as trace:
         stamp = outcomes.stamp_of(os.fstat(trace.fileno()))
         checksum = outcomes.checksum_of_file(trace)
-        if old and old.trace == checksum and passes.stands(old, work, name):
+        if old and old.trace == checksum and passes.is_valid(old, work, name):
             new = old._replace(stamp=stamp)
         else:
             end = reports.analysed(work, name, trace)
@@ -49,7 +49,7 @@ def make_outcome(work, name):
 
 
 def has_parent_in_session():
-    """Whether the parent is of the same session: who has lost its own parent has one of another session."""
+    """Whether the parent is of the same session: the new parent of an orphan is of another one."""
     try:
         return os.getsid(os.getppid()) == os.getsid(0)
     except ProcessLookupError:

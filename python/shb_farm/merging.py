@@ -39,7 +39,7 @@ def ending_of(work, name, outside=()):
         why = "it has changed since"
     elif outcome.kind == "failed":
         why = outcome.words
-    elif not passes.stands(outcome, work, name):
+    elif not passes.is_valid(outcome, work, name):
         why, size = "its limits were lower", outcome.cost.text or size
     else:
         return Ending(outcome.kind, outcome.words, outcome.places, size, outcome.cost)

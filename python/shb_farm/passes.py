@@ -77,8 +77,8 @@ def kept_path(out, name, ending):
     return pathlib.Path(out) / FOLDER_OF[KEPT] / f"{key_of(name)}.{ending}"
 
 
-def stands(outcome, work, name):
-    """Whether an outcome of this trace, as it is now, holds under the limits of this pass."""
+def is_valid(outcome, work, name):
+    """Whether an outcome of this trace, as it is now, is valid under the limits of this pass."""
     if outcome.program != work.program or outcome.kind == "failed":
         return False
     if outcome.kind in ("memory", "time", "size"):

@@ -43,8 +43,8 @@ class Uses:
 
 def with_volatiles(events, uses, repairs):
     """What a thread did before a volatile write comes before what another one does after a later read of the
-    variable, and nothing else is ordered: a write takes and releases a lock of its own for each thread that
-    takes it, which does so at its next read."""
+    variable, and nothing else is ordered: a write acquires and releases a lock of its own for each thread
+    that reads it, which does the same at its next read."""
     given, writes = collections.defaultdict(list), 0
     for event in events:
         if event.word == b"vr":
@@ -65,7 +65,8 @@ def with_volatiles(events, uses, repairs):
 
 
 def with_waits(events, repairs):
-    """A wait releases its lock, and has it before its thread's next event. A notification orders nothing."""
+    """A wait releases its lock, and acquires it before its thread's next event. A notification orders
+    nothing."""
     waiting = {}
     for event in events:
         if event.thread in waiting:
@@ -155,9 +156,9 @@ class Sections:
             del self.holder[lock], self.depth[lock]
 
     def whole(self, events):
-        """A lock that is given up before anybody took it was held when the log began: its holder takes it
-        first. One that is taken while another thread has it, or whose holder is joined, was given up before;
-        one that is given up by who hasn't it isn't."""
+        """A lock that is released before anybody acquired it was held when the log began: its holder acquires
+        it first. One that is acquired while another thread holds it, or whose holder is joined, was released
+        before. Any other release by a thread that doesn't hold the lock is dropped."""
         for event in events:
             yield from self.missing(event)
             if (event.word == b"rel" and self.holder.get(event.name) != event.thread
