@@ -400,7 +400,7 @@ class Pictures(program.Case):
                 if shown != name:
                     cut += 1
                     self.assertTrue(shown == "" or name.startswith(shown[:-1]))
-        self.assertGreater(cut, 2)
+        self.assertGreater(cut, 1)
 
 
 def lane_of(found, x):

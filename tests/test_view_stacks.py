@@ -54,9 +54,9 @@ class Stacks(program.Case):
     def test_the_text(self):
         status, out, err = self.shown(stacks())
         self.assertEqual((status, err), (0, ""))
-        self.assertIn("     in add<> (2 of 3 accesses)\n       from main a.c:31\n"
-                      "     in add<> (1 of 3 accesses)\n       from std::each each.h:8\n       from run "
-                      "a.c:20\n", out)
+        self.assertIn("     in add<> (2 of 3 accesses by main)\n       from main a.c:31\n"
+                      "     in add<> (1 of 3 accesses by T1)\n       from std::each each.h:8\n"
+                      "       from run a.c:20\n", out)
         self.assertIn("     in get\n       from libc.so.6+0x10\n"
                       "       from sorter (no line is known: it called code without -fsanitize=thread)\n     "
                       "  from main a.c:31\n", out)
@@ -325,6 +325,19 @@ class Stacks(program.Case):
         self.assertIn("   a.c:5 read what a.c:7 freed. This racy read may hide other races: fix it and run "
                       "again.\n", out)
 
+    def test_atomics_are_drawn_as_atomics(self):
+        """What stands for an order of one is no lock; of a queue or the like it is what it was."""
+        trace = (b"main|fork(T1)|a.c:30\nmain|w(a.c:9#2)|a.c:5\nmain|acq(slot@1)|a.c:6\n"
+                 b"main|rel(slot@1)|a.c:6\nT1|acq(slot@1)|a.c:4\nT1|rel(slot@1)|a.c:4\nT1|w(z)|a.c:8\n"
+                 b"main|w(z)|a.c:7\n")
+        page = self.folder / "page.html"
+        for use, words in ((b"", ["releases slot", "acquires slot"]),
+                           (b"use 3\tslot\tmain\ta.c:6\tstore release\n", ["stores atomic slot",
+                                                                          "loads atomic slot"])):
+            self.shown(stacks([1] * 8, TABLES + use), "--html", page, trace=trace)
+            events = [event[4] for event in Page(page.read_text()).group()["picture"]["events"]]
+            self.assertEqual([event for event in events if "slot" in event], words)
+
     def test_an_atomic_that_hands_on_without_order(self):
         """Between the two accesses one thread stores it and the other loads that store; the trace need
         not have it."""
@@ -352,9 +365,10 @@ class Stacks(program.Case):
             with self.subTest(uses):
                 out = self.with_uses(3, uses)
                 self.assertEqual("hand this on" in out, words is not None)
-                self.assertIn(says.format(*words) if words else "   In this trace no lock is held", out)
-                self.assertIn(f"1. a.c:9#2: {headline or 'a.c:5 writes, a.c:7 reads without a lock'} (1 "
-                              "place)\n", out)
+                lock = "mutex" if "update" in " ".join(uses) else "lock"
+                self.assertIn(says.format(*words) if words else f"   In this trace no {lock} is held", out)
+                headline = headline or f"a.c:5 writes, a.c:7 reads without a {lock}"
+                self.assertIn(f"1. a.c:9#2: {headline} (1 place)\n", out)
         for event in (2, 4):   # before the first access, and after the second
             self.assertNotIn("hand this on", self.with_uses(event, ("main store relaxed", "T1 load relaxed")))
 
@@ -390,8 +404,8 @@ class Stacks(program.Case):
         page = self.folder / "page.html"
         out = self.shown(stacks([1, 2, 2, 2, 5]), "--text", "--html", page, trace=trace)[1]
         self.assertIn("In this trace l is held at 1 of 2 accesses at a.c:5.", out)
-        self.assertIn("     in add<> (1 of 2 accesses)\n       from std::each each.h:8\n", out)
-        self.assertIn("     in add<> (1 of 2 accesses, no lock held)\n       from main a.c:31\n", out)
+        self.assertIn("     in add<> (1 of 2 accesses by T1)\n       from std::each each.h:8\n", out)
+        self.assertIn("     in add<> (1 of 2 accesses by main, no lock held)\n       from main a.c:31\n", out)
         self.assertEqual([said(side["locks"]) for side in Page(page.read_text()).group()["sides"]],
                          ["holding l", "no lock held"])
         self.assertNotIn("accesses, no lock held", self.shown(stacks())[1])

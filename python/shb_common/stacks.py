@@ -157,6 +157,11 @@ class Stacks:
         return {variable: found.pop() for variable, found in names.items() if len(found) == 1
                 and b"" not in found}
 
+    @functools.cached_property
+    def atomics(self):
+        """The names of atomics that have a use."""
+        return {use.name for use in self.uses}
+
     def of_event(self, event):
         return self.stack(self.numbers[event - 1]) if 0 < event <= len(self.numbers) else ()
 

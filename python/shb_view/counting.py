@@ -106,6 +106,7 @@ class Counting:
         self.sources = {}  # by a racing read: the write that it saw, or None
         # By variable and location: the stacks of the accesses, each with whether no lock is held.
         self.callers = collections.defaultdict(collections.Counter)
+        self.callers_threads = collections.defaultdict(set)  # by stack: threads with an access there
         self.sights = uses.sights if uses else ()
         self.seen = set()  # where races write and then read that, as pairs
         self.last, self.joined = {}, {}  # by thread its last event of this part; by a join its thread's
@@ -117,7 +118,6 @@ class Counting:
         self.once = uses.once if uses else set()  # of these: what follows one release alone
         self.again = collections.defaultdict(list)  # by variable: its events that stand for repeats
         self.releases = {}  # by thread: its last one in this part
-        self.handing = {use.name for use in kinds.stacks.uses}  # atomics
         # by word, variable and location: by a release the events of the access after it; None if two are
         self.follows = {}
 
@@ -171,7 +171,8 @@ class Counting:
         atomic, or of a lock with readers, has a lock for each other thread."""
         own = re.fullmatch(GIVEN, lock) if b"@" in lock else None
         base, sign, to = own.groups() if own else (lock.partition(b"@")[0], None, None)
-        takes = (sign == b">") == (to == thread) if sign else own and base not in self.handing
+        is_barrier = own and base not in self.access_kinds.stacks.atomics
+        takes = (sign == b">") == (to == thread) if sign else is_barrier
         if not takes:
             last, what = self.releases.get(thread), (thread, base, line[len(thread) + len(lock) + 7:])
             is_more = last and number - last.end <= 1 + bool(own) and last[2:] == what
@@ -198,6 +199,8 @@ class Counting:
             since = self.alike.get((thread, operation, location), 0)
             self.again[variable].append(Repeated(thread, word, since, number))
         self.alike[thread, operation, location] = number
+        if self.access_kinds.stacks.numbers:
+            self.callers_threads[self.access_kinds.stacks.numbers[number - 1]].add(thread)
         release, its = self.releases.get(thread), self.follows.setdefault((word, variable, location), {})
         if release and its is not None:
             before = its.get(release, ())  # the same access again, as it may be recorded twice

@@ -14,11 +14,11 @@ MOST_NAMED = 3  # variables in a sentence
 
 # A group with its uses, its lines and its fact, and what else is shown of it: a race with what comes before
 # it (`window`); by racing line the stacks of its racing accesses, as `callers_of` returns them, each with how
-# many have it; the pairs of lines of races where the second reads what the first wrote (`seen`); the modules
-# without hooks that may order its accesses (`unseen`). `is_behind` says that it was found behind known races;
-# groups that aren't asked for are in the page alone.
+# many have it, and by stack its `threads`; the pairs of lines of races where the second reads what the first
+# wrote (`seen`); the modules without hooks that may order its accesses (`unseen`). `is_behind` says that it
+# was found behind known races; groups that aren't asked for are in the page alone.
 Section = collections.namedtuple("Section", "group uses sites fact window callers seen unseen is_behind "
-                                 "is_asked_for", defaults=(None, {}, (), (), False, True))
+                                 "is_asked_for threads", defaults=(None, {}, (), (), False, True, {}))
 
 
 class Facts:

@@ -95,7 +95,7 @@ function stacks(group) {
   const parts = [];
   if (group.stacks.length) {
     parts.push(folded("Further stacks of the racing lines", group.stacks.map(([line, found, more]) => make("div", null, make("p", null, told(line)),
-      found.map(([words, number]) => [make("p", { class: "faint" }, words), stack(number)]).flat(), more ? make("p", null, `and ${count(more, "more stack")}`) : ""))));
+      found.map(([words, number]) => [make("p", { class: "faint" }, told(words)), stack(number)]).flat(), more ? make("p", null, `and ${count(more, "more stack")}`) : ""))));
   }
   if (group.origins.length) {
     parts.push(folded("Where the threads were created, the blocks allocated and the locks taken",

@@ -239,7 +239,7 @@ def other_stacks(section, shown, tables):
     for site in section.sites[:MOST_SITES]:
         callers = section.callers.get(site.location, [])
         total = sum(count for _, count in callers)
-        rows = [[share(count, total, is_bare), tables.add(frames)]
+        rows = [[told(share(count, total, is_bare, section.threads.get(frames, ()))), tables.add(frames)]
                 for (frames, is_bare), count in callers[:MOST_STACKS]]
         if {stack for _, stack in rows} - shown - {-1}:
             found.append([told([place(site.location)]), rows, max(0, len(callers) - MOST_STACKS)])

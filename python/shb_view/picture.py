@@ -14,6 +14,7 @@ MOST_BARS = 4
 STUB = 0.4  # rows that a bar goes on where its lock's acquire or release isn't shown
 WORDS = {**VERBS, b"acq": "acquires", b"rel": "releases", b"fork": "starts", b"join": "joins",
          b"begin": "begins", b"end": "ends"}
+ATOMICALLY = {b"acq": "loads atomic", b"rel": "stores atomic"}
 # Pixels: of a row; of a thread's name; between a lane and what is right of it; between neighbours; of a bar
 # and of a letter along it; the bends of arrows; the circle of an access.
 ROW, HEAD, GAP, STEP, BAR, LETTER, ROUND, ACCESS = 38, 19, 16, 7, 16, 6.7, 5, 8
@@ -143,13 +144,15 @@ def most_slots(found, groups, group):
 def event_data(window, kinds, event, drawn, at):
     """An event with its lane, its height and that of its texts, what these are, and its tip."""
     shown = window.events[event]
-    word = kinds.of(event, shown.event.word, shown.event.name)
+    does = WORDS[kinds.of(event, shown.event.word, shown.event.name)]
     location = short(shown.event.location, TEXT) if shown.event.location else "(no location)"
     version = version_of(kinds, shown)
+    if version and shown.event.name.partition(b"@")[0] in kinds.stacks.atomics:
+        does = ATOMICALLY[shown.event.word]
     name = short(shown.named.name[:version.start()] if version else shown.named.name or b"", TEXT - 9)
     others = [lock for lock in drawn.unnamed(at) if lock != name] if at < drawn.last else []
     number = f"{at - drawn.last + 1}  " if at >= drawn.last else ""
-    return [event, drawn.events[at], drawn.y[at], drawn.text(at), f"{number}{WORDS[word]} {name}".rstrip(),
+    return [event, drawn.events[at], drawn.y[at], drawn.text(at), f"{number}{does} {name}".rstrip(),
             f"{location} · {event}" + (f" · holds {', '.join(others)}" if others else ""), tip(shown)]
 
 

@@ -84,19 +84,22 @@ def site_lines(view, section, site, colours):
     yield "     " + "; ".join(flat(parts) for _, parts in lock_words(site))
     if site.partners:
         yield f"     races with {flat(partner_parts(site))}"
-        yield from stack_lines(section.callers.get(site.location, []))
+        yield from stack_lines(section.callers.get(site.location, []), section.threads)
 
 
-def stack_lines(callers):
+def stack_lines(callers, threads):
     """The stacks of a line's racing accesses. Those that differ in what isn't shown are one."""
-    shown = collections.Counter()
+    shown, by = collections.Counter(), collections.defaultdict(set)
     for (frames, is_bare), count in callers:
         first, *others = caller_lines(frames, MOST_FRAMES) or [["(no stack is known)"]]
-        shown[(is_bare, flat(first[:1]), *map(flat, others))] += count
+        key = (is_bare, flat(first[:1]), *map(flat, others))
+        shown[key] += count
+        by[key].update(threads.get(frames, ()))
     ranked = shown.most_common()
-    for (is_bare, first, *others), count in ranked[:MOST_STACKS]:
-        some = f" ({share(count, sum(shown.values()), is_bare)})" if len(ranked) > 1 else ""
-        yield f"     in {first}{some}"
+    for key, count in ranked[:MOST_STACKS]:
+        is_bare, first, *others = key
+        some = flat(share(count, sum(shown.values()), is_bare, by[key]))
+        yield f"     in {first}" + f" ({some})" * (len(ranked) > 1)
         yield from (f"       from {parts}" for parts in others)
     if len(ranked) > MOST_STACKS:
         rest = sum(count for _, count in ranked[MOST_STACKS:])

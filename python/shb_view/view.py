@@ -226,20 +226,23 @@ def make_section(found, counting, calls):
     places, kinds = found.group.places(), counting.access_kinds
     seen = sorted((pair for pair in counting.seen if tuple(sorted(pair)) in places),
                   key=lambda pair: list(map(by_numbers, pair)))
-    callers = callers_of(found.group, counting)
-    return found._replace(callers=callers, seen=seen,
+    callers, threads = callers_of(found.group, counting)
+    return found._replace(callers=callers, seen=seen, threads=threads,
                           unseen=perhaps_ordered(found.sites, callers, kinds.stacks, calls) if calls else [])
 
 
 def callers_of(group, counting):
-    """The stacks of a group's racing lines, each with whether it is told that no lock is held."""
-    kinds, found = counting.access_kinds, {}
+    """The stacks of a group's racing lines, each with whether it is told that no lock is held; and the
+    threads that have each stack, as far as the trace tells."""
+    kinds, found, threads = counting.access_kinds, {}, collections.defaultdict(set)
     for location in group.locations():
         stacks = collections.Counter()
         for variable in dict.fromkeys(map(kinds.in_trace, group.names)):
             for (stack, is_bare), count in counting.callers[variable, location].items():
-                stacks[kinds.stacks.stack(stack), is_bare] += count
+                frames = kinds.stacks.stack(stack)
+                stacks[frames, is_bare] += count
+                threads[frames] |= counting.callers_threads.get(stack, set())
         is_told = len({is_bare for _, is_bare in stacks}) > 1
         found[location] = [((frames, is_bare and is_told), count)
                            for (frames, is_bare), count in stacks.most_common()]
-    return found
+    return found, threads

@@ -104,9 +104,11 @@ def accesses_text(site, is_counted):
     return "".join(listed([[its] for its in words], len(KINDS)))
 
 
-def share(count, total, is_bare):
-    """How many of a line's accesses have a stack, and that they hold no lock where others do."""
-    return f"{count:,} of {counted(total, 'access', 'accesses')}" + (f", {NO_LOCK}" if is_bare else "")
+def share(count, total, is_bare, threads):
+    """How many of a line's accesses have a stack, which threads, and that they hold no lock where others
+    do."""
+    by = [" by ", *listed([[Code(thread)] for thread in sorted(threads)], MOST_THREADS)] * bool(threads)
+    return [f"{count:,} of {counted(total, 'access', 'accesses')}", *by, f", {NO_LOCK}" * is_bare]
 
 
 def partner_parts(site):
