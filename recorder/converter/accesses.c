@@ -286,7 +286,7 @@ static inline void piece_events(const entry *e, const use *u, u32 number, read_e
         p->writes++;
     }
     if (!u->reads) return;
-    for (const list_entry *k = entry_of_list(p->atomic_writers); k; k = entry_of_list(k->next))
+    for (const list_entry *k = entry_of_list(p->atomic_writers); k; k = entry_of_list(k->next), extra_steps++)
         if (k->thread != u->thread) keep_event(kept, piece_event(e, u, number, "r", k->thread));
 }
 

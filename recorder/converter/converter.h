@@ -176,7 +176,9 @@ typedef struct {
 } piece_use;
 #define APART (-1u)
 enum { MOST_PIECES = (1u << 30) - 1 }; /* in accesses.c numbers of runs stand behind theirs */
-extern u64 range_steps;                /* in this pass: pages and pieces after the first of each range */
+/* in this pass: pages and pieces after the first of each range, functions of deep stacks, locks that are
+   looked through, and what a record takes of other threads */
+extern u64 extra_steps;
 void begin_memory_pass(void);
 /* it, or null; each pass calls it for each OP_ALLOC and OP_START: the newest block holds its addresses */
 block *meet_block(const entry *e);

@@ -15,7 +15,7 @@
 #include <unistd.h>
 #include "converter.h"
 
-#define MAX_RANGE_STEPS (1ull << 28)   /* in a pass: seconds */
+#define MAX_EXTRA_STEPS (1ull << 28)   /* in a pass: seconds */
 
 static int is_of_stack(enum operation operation) { return operation >= OP_FRAME && operation <= OP_CONTEXT; }
 static int is_for_object(enum operation operation) {
@@ -99,8 +99,8 @@ static void name_block(block *b, const entry *e) {
     b->caller = own_place(e->thread, e->caller);
 }
 
-/* A record of ranges so long and so many that no pass would end soon is cut, or of so many threads: its
-   beginning is a record too. */
+/* A record is cut if no pass would end soon, or of so many threads: its beginning is a record too. The pass
+   for a page ends where that of the run's trace did. */
 static const char *shortened;
 static u32 record_threads;
 
@@ -127,8 +127,8 @@ static inline __attribute__((always_inline)) void pass(void (*step)(const entry 
         }
         step(&e);
         if (b && step == write_events && operation == OP_ALLOC) name_block(b, &e);
-        if (range_steps <= MAX_RANGE_STEPS) continue;
-        shortened = "where its accesses of long ranges take too much work";
+        if (extra_steps <= MAX_EXTRA_STEPS || is_for_page()) continue;
+        shortened = "where long ranges, deep stacks, held locks or many threads take too much work";
         record_count = i;
     }
 }

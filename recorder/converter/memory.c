@@ -24,7 +24,7 @@ typedef struct {
 } page;
 
 int cuts_all;
-u64 range_steps;
+u64 extra_steps;
 static VECTOR(block) blocks;
 static u64 met;                        /* how many blocks in this pass */
 static VECTOR(piece) pieces;
@@ -71,7 +71,7 @@ static void empty_slots(page *p, u64 from, u64 end) {
 }
 
 static void allot(u64 from, u64 end, u32 number) {
-    for (; from < end; range_steps++) {
+    for (; from < end; extra_steps++) {
         page *p = page_of(from, 1);
         u64 page_end = (from / PAGE + 1) * PAGE, stop = end < page_end ? end : page_end;
         if (p->slots) empty_slots(p, from % PAGE, stop - (page_end - PAGE));
@@ -115,7 +115,7 @@ inline u64 end_of_same(u64 from, u64 end) {
     u64 page_end = (from / PAGE + 1) * PAGE, stop = end < page_end ? end : page_end;
     u64 at = p && p->grains ? (from / GRAIN + 1) * GRAIN : stop;
     while (at < stop && p->grains[at % PAGE / GRAIN] == p->grains[from % PAGE / GRAIN]) at += GRAIN;
-    range_steps += at < end;
+    extra_steps += at < end;
     return at < stop ? at : stop;
 }
 
@@ -124,7 +124,7 @@ u32 block_number(const block *b) { return b ? b - blocks.at + 1 : 0; }
 block *block_of(u32 number) { return number ? &blocks.at[number - 1] : 0; }
 
 void begin_memory_pass(void) {
-    met = range_steps = 0;
+    met = extra_steps = 0;
     EACH(p, pages.at, pages.numbers.count) {
         p->whole = 0;
         if (p->grains) memset(p->grains, 0, PAGE / GRAIN * sizeof *p->grains);
@@ -165,13 +165,13 @@ RARE u64 next_cut(u64 from, u64 end) {
             u64 bits = p->stretches[at % PAGE / 64].cuts >> at % 64;
             if (bits) {
                 at += __builtin_ctzll(bits);
-                range_steps += at < end;
+                extra_steps += at < end;
                 return at < end ? at : end;
             }
             at = (at / 64 + 1) * 64;
         }
         at = page_end;
-        range_steps += at < end;
+        extra_steps += at < end;
     }
     return end;
 }
@@ -204,7 +204,7 @@ inline u32 neighbours_at(u64 *cut, u64 end, u32 *count) {
     u64 rest = cuts & (cuts - 1);
     for (; rest && slots[k] == *slots + k; k++) rest &= rest - 1;
     *count = k;
-    range_steps += rest ? k : k - 1;
+    extra_steps += rest ? k : k - 1;
     if (rest) *cut = from + __builtin_ctzll(rest);
     else *cut = end <= stop ? end : next_cut(from + 63 - __builtin_clzll(cuts), end);
     return *slots;

@@ -8,6 +8,10 @@
 /* What a store or an update gives on to those who read it: a number of the object's own, and who gave it. If
    it is locked, whoever takes the lock of the object's head gets it too. */
 typedef struct { u32 version, giver, locked; } gift;
+/* Who gave a version, or NOBODY, and up to which one the giver had taken them. */
+typedef struct { u32 giver, taken; } given;
+/* A post of a semaphore: its number, of the object's own, and up to which one its thread had taken them. */
+typedef struct { u32 number, poster, taken; } post;
 
 typedef struct {
     u64 at;
@@ -20,7 +24,12 @@ typedef struct {
     u32 version, head;
     u32 stores;                        /* of the atomic: so far */
     VECTOR(gift) gifts;                /* what its present value gives */
-    VECTOR(u32) posters;               /* of a semaphore: the thread of each post so far */
+    VECTOR(given) given;               /* by versions, if the program has fences */
+    u32 begun;                         /* the version before the present value's first */
+    /* of a semaphore: the last post of each thread, in their order, and not yet forgotten ones; how many were
+       there when these were forgotten */
+    VECTOR(post) posts;
+    u32 posters;
     VECTOR(u32) readers;               /* of a reader-writer lock: since the last writer */
     u32 count, users, arrivals;        /* of a barrier */
     uint8_t is_of_atomic, recounted;   /* recounted: begun again with another count */
@@ -31,8 +40,9 @@ typedef struct {
 
 static INTERNED(object) objects;
 /* For a thread and an object: the last version, post or round that the thread has seen, and the last version
-   that it will take at a fence; the last that it gave itself, and behind how many stores. */
-typedef struct { u32 last, noted, gave, stores; } sight;
+   that it will take at a fence, with the number of that note; the last that it gave itself, or its last post,
+   and behind how many stores. */
+typedef struct { u32 last, noted, note, gave, stores; } sight;
 static INTERNED(sight) seen;
 static INTERNED(u32) version_readers;  /* for object and version: the list of those who will read it */
 
@@ -74,6 +84,11 @@ static void add_reader(object *o, u32 t) {
 typedef void (*handing)(object *o, u32 version, u32 taker, u64 caller);
 int has_fences;
 
+static u32 add_version(object *o, u32 giver, u32 taken) {
+    if (has_fences) *PUSH(o->given) = (given){giver, taken};
+    return ++o->version;
+}
+
 /* What t gave before, and what it has taken, is in what it gives now. */
 static void give(object *o, u32 t, int locked) {
     u32 last = *seen_by(o, t);
@@ -81,7 +96,7 @@ static void give(object *o, u32 t, int locked) {
     EACH(g, o->gifts.at, o->gifts.count)
         if (g->giver != t && g->version > last) o->gifts.at[kept++] = *g;
     o->gifts.count = kept;
-    *PUSH(o->gifts) = (gift){++o->version, t, locked};
+    *PUSH(o->gifts) = (gift){add_version(o, t, last), t, locked};
 }
 
 /* t takes all gifts of the present value that it hasn't; what the lock of the head gives only if that
@@ -115,17 +130,47 @@ static int gives_all_on(object *o, u32 t) {
     return 1;
 }
 
-/* A relaxed read: t will take the gifts at its next fence, if there is one. */
+/* A relaxed read: t will take what versions from one on give at its next fence, if there is one. Those that
+   go on from its last note are in that, unless a store came between. */
+static void note_versions(object *o, u32 t, u32 from, u32 to) {
+    sight *s = sight_of(o, t);
+    thread_state *its = &threads[t];
+    note *last = s->note && s->note <= its->notes.count ? &its->notes.at[s->note - 1] : 0;
+    if (last && last->object == index_of(o) && last->to == from && from > o->begun) last->to = to;
+    else {
+        *PUSH(its->notes) = (note){index_of(o), from, to};
+        s->note = its->notes.count;
+    }
+}
+
+/* The gift of a version before the store that began the value is one that goes on. */
 static void note_gifts(object *o, u32 t) {
     sight *s = sight_of(o, t);
-    u32 last = s->noted > s->last ? s->noted : s->last;
-    for (u64 k = o->gifts.count; k-- > 0 && o->gifts.at[k].version > last;)
-        if (o->gifts.at[k].giver != t) *PUSH(threads[t].notes) = (note){index_of(o), o->gifts.at[k].version};
+    const u32 last = s->noted > s->last ? s->noted : s->last, from = last > o->begun ? last : o->begun;
+    const gift *first = o->gifts.count ? o->gifts.at : 0;
+    if (first && first->version <= o->begun && first->version > last)
+        note_versions(o, t, first->version - 1, first->version);
+    if (from < o->version) note_versions(o, t, from, o->version);
     s->noted = o->version;
 }
 
+/* Of each giver the newest, but for what was taken before by the giver of a newer one. */
+static void take_versions(const note *n, u32 t, handing hand, u64 caller) {
+    static u64 takes;
+    object *o = &objects.at[n->object];
+    u32 from = n->from;
+    takes++;
+    for (u32 version = n->to; version > from; version--) {
+        const given g = o->given.at[version - 1];
+        if (g.giver == NOBODY || g.giver == t || threads[g.giver].taken_by == takes) continue;
+        threads[g.giver].taken_by = takes;
+        hand(o, version, t, caller);
+        if (g.taken > from) from = g.taken;
+    }
+}
+
 static void take_noted(u32 t, handing hand, u64 caller) {
-    EACH(n, threads[t].notes.at, threads[t].notes.count) hand(&objects.at[n->object], n->version, t, caller);
+    EACH(n, threads[t].notes.at, threads[t].notes.count) take_versions(n, t, hand, caller);
     threads[t].notes.count = 0;
 }
 
@@ -154,13 +199,14 @@ static void store_value(const entry *e, object *o) {
     sight *s = sight_of(o, t);
     int goes_on = !gives(e) && s->gave && s->stores == o->stores;
     o->gifts.count = 0;
+    o->begun = o->version;
     o->stores++;
     if (goes_on) {
         *PUSH(o->gifts) = (gift){s->gave, t, 0};
         s->stores = o->stores;
     }
     if (gives(e)) give_own(o, t, 1);
-    else o->version++;
+    else add_version(o, NOBODY, 0);
     o->head = o->version;
 }
 
@@ -186,24 +232,40 @@ static void take_newest(object *o, u32 t, handing hand, u64 caller) {
     if (*last != o->version) hand(o, *last = o->version, t, caller);
 }
 
-/* t takes what all posts give that it hasn't: of each other thread the last one since its wait before. */
+static int is_last_post(const object *o, const post *p) { return sight_of(o, p->poster)->gave == p->number; }
+
+static void add_post(object *o, u32 t) {
+    enum { FEW = 16 };
+    u64 kept = 0;
+    sight *s = sight_of(o, t);
+    s->gave = ++o->version;
+    *PUSH(o->posts) = (post){o->version, t, s->last};
+    if (o->posts.count < 2 * o->posters + FEW) return;
+    EACH(p, o->posts.at, o->posts.count)
+        if (is_last_post(o, p)) o->posts.at[kept++] = *p;
+    o->posts.count = o->posters = kept;
+}
+
+/* t takes what all posts give that it hasn't: of each other thread the last one since its wait before, but
+   what the thread of a later post had taken is in that. */
 static void take_posts(object *o, u32 t, handing hand, u64 caller) {
-    static u64 waits;
     u32 *last = seen_by(o, t), first = *last;
-    waits++;
-    *last = o->posters.count;
-    for (u32 k = *last; k > first; k--) {
-        const u32 poster = o->posters.at[k - 1];
-        if (poster == t || threads[poster].taken_by == waits) continue;
-        threads[poster].taken_by = waits;
-        hand(o, k, t, caller);
+    *last = o->version;
+    for (u64 k = o->posts.count; k && o->posts.at[k - 1].number > first; k--) {
+        const post *p = &o->posts.at[k - 1];
+        if (p->poster == t || !is_last_post(o, p)) continue;
+        hand(o, p->number, t, caller);
+        if (p->taken > first) first = p->taken;
     }
 }
 
 /* ---- 3: who uses and who reads what ---- */
 /* A store passes what it gives to each of its takers by a lock of these two alone, so that no taker orders
    another. For this the takers of each version are found first. */
+static u64 takes_of_record;
+
 static void add_taker(object *o, u32 version, u32 t, u64 unused) {
+    takes_of_record++;
     add_to_list(ENTRY(version_readers, index_of(o), version), t);
 }
 
@@ -214,7 +276,17 @@ static void share_atomic(const entry *e, object *o) {
     } else write_value(e, o);
 }
 
-void share_fence(const entry *e) { pass_fence(e, add_taker); }
+/* What a record takes of more than one thread grows with threads by threads. */
+static void count_takes(void) {
+    enum { STEPS = 64 };
+    if (takes_of_record > 1) extra_steps += STEPS * (takes_of_record - 1);
+    takes_of_record = 0;
+}
+
+void share_fence(const entry *e) {
+    pass_fence(e, add_taker);
+    count_takes();
+}
 
 /* Of each acquire of a lock, in the order of the run: is there another thread's critical section right before
    or behind its own? Else it takes nothing that its thread doesn't know, and its release gives nothing to
@@ -260,7 +332,7 @@ void share_object(const entry *e) {
         o->holder = 0;
         new_version(o, t);
         break;
-    case OP_POST: *PUSH(o->posters) = t; break;
+    case OP_POST: add_post(o, t); break;
     case OP_WAIT: take_posts(o, t, add_taker, 0); break;
     case OP_BARRIER_INIT:
         if (o->count && o->count != size_of(e)) o->recounted = 1;
@@ -272,13 +344,14 @@ void share_object(const entry *e) {
         break;
     default: break;
     }
+    count_takes();
 }
 
 void forget_states(void) {
     acquires_met = 0;
     EACH(o, objects.at, objects.numbers.count) {
-        o->depth = o->holder = o->version = o->head = o->arrivals = o->writer = 0;
-        o->gifts.count = o->posters.count = o->readers.count = 0;
+        o->depth = o->holder = o->version = o->head = o->arrivals = o->writer = o->posters = 0;
+        o->begun = o->gifts.count = o->given.count = o->posts.count = o->readers.count = 0;
     }
     if (seen.at) memset(seen.at, 0, seen.numbers.count * sizeof *seen.at);
 }
@@ -360,6 +433,7 @@ static hold *hold_of(u32 t, u64 key) {
     thread_state *s = &threads[t];
     u64 k = s->held.count;
     while (k && s->held.at[k - 1].key != key) k--;
+    extra_steps += (s->held.count - k) / 16;
     return k ? &s->held.at[k - 1] : 0;
 }
 
@@ -508,8 +582,8 @@ static void rw_unlock_events(object *o, u32 t, u64 caller) {
 }
 
 static void post_events(object *o, u32 t, u64 caller) {
-    *PUSH(o->posters) = t;
-    publish(o, o->posters.count, t, caller);
+    add_post(o, t);
+    publish(o, o->version, t, caller);
 }
 
 /* rounds are told apart where no thread can skip one */

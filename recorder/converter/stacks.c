@@ -105,8 +105,16 @@ static void leave_functions(thread_calls *s) {
     s->records++;
 }
 
+/* Of few functions a step is like that of any record. */
+static void count_functions(u64 count) {
+    enum { FEW = 256 };
+    if (count > FEW) extra_steps += count - FEW;
+}
+
 /* The functions of a context but for its innermost ones: at most so many are left. */
 static u32 outer_context(u32 number, u64 depth) {
+    const u64 before = contexts.at[number].depth;
+    if (before > depth) count_functions(before - depth);
     while (contexts.at[number].depth > depth) number = contexts.at[number].outer;
     return number;
 }
@@ -167,6 +175,7 @@ static void enter(thread_calls *s, u32 number) {
         s->calls.at[--d] = contexts.at[number].call;
         s->calls.at[d].context = number;
     }
+    count_functions(s->length - d);
     if (s->lowest > d) s->lowest = d;
     if (s->known > d) s->known = d;
     if (s->owned > d) s->owned = d;

@@ -40,7 +40,7 @@ typedef struct {
 typedef struct { u64 key, caller, acquire; u32 stack, lock; uint8_t is_again, orders; } hold;
 #define ONLY_ORDERS (1ull << 63)       /* in the key of a lock of the trace's own */
 
-typedef struct { u32 object, version; } note;
+typedef struct { u32 object, from, to; } note;   /* versions behind the first one, up to the other */
 
 typedef struct {
     /* the trace that is written (events.c) */
@@ -58,8 +58,8 @@ typedef struct {
     /* so many acquires aren't in the trace; a sum of the program's locks that it holds */
     u64 unwritten, locks;
     VECTOR(note) notes;                /* what it will take at its next fence */
+    u64 taken_by;                      /* the last taking of noted versions that took one of its own */
     int is_fenced;                     /* by a release fence */
-    u64 taken_by;                      /* the last wait that took a post of it */
     /* its last record, and the object that it gave something by that; plus one */
     u64 gave_at, gave;
     int gave_once;                     /* the place of its last release had none of it before */

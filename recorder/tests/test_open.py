@@ -1,9 +1,11 @@
 """What `shb-std -r` leaves out has no race: records drawn at random have the same places with it and without.
 Of a variable that races each thread's accesses at each place are there."""
 
+import os
 import random
 import re
 import shutil
+import subprocess
 
 import recorder
 from analysis import Step
@@ -180,6 +182,47 @@ class Limits(recorder.Case):
             answer = recorder.call(limited, record)
             self.assertEqual((answer.returncode, b"more variables than shb-std takes (2)" in answer.stderr),
                              (status, status == 2))
+
+    def test_order_of_many_threads_is_linear(self):
+        """Where a semaphore goes round, a wait takes the last post alone; a wait after many posts looks at
+        none of them twice, and relaxed reads take no memory for each thread that gave."""
+        forks, record = b"".join(entry(0, "FORK", t, 0x200) for t in range(1, 801)), self.folder / "app.rec"
+        turn = b"".join(entry(t, "WAIT", 0x5000, 0x300) + entry(t, "WRITE", 0x6000, 0x301, 4)
+                        + entry(t, "POST", 0x5000, 0x302) for t in range(1, 65))
+        record.write_bytes(HEADER + forks + entry(0, "POST", 0x5000, 0x299) + turn * 10)
+        lines = recorder.must(recorder.convert(record, "--list")).stdout.count(b"\n")
+        self.assertLess(lines - 800, 64 * 10 * 6)
+        posts = entry(0, "POST", 0x5000, 0x299) * 20_000
+        record.write_bytes(HEADER + forks + posts + b"".join(entry(t, "WAIT", 0x5000, 0x300)
+                                                             for t in range(1, 801)))
+        ran = recorder.must(recorder.call("valgrind", "--tool=callgrind", "--callgrind-out-file=/dev/null",
+                                          recorder.BUILT / "shb-std", "--list", record))
+        self.assertLess(int(re.search(rb"Collected : (\d+)", ran.stderr)[1]), 100_000_000)
+        updates = b"".join(entry(t, "ATOMIC_UPDATE", 0x5000, 0x300, 4 | 3 << 5) for t in range(1, 801))
+        record.write_bytes(HEADER + forks + entry(0, "FENCE", 0, 0x299, 2) + updates * 100)
+        with subprocess.Popen([recorder.BUILT / "shb-std", "--list", record], stdout=-3, stderr=-3) as ran:
+            _, ran.returncode, used = os.wait4(ran.pid, 0)
+        self.assertEqual(ran.returncode, 0)
+        self.assertLess(used.ru_maxrss, 60_000)
+
+    def test_a_few_records_that_take_much_work(self):
+        """Each takes what many threads gave, goes through many functions, or looks through many locks."""
+        forks = b"".join(entry(0, "FORK", t, 0x200) for t in range(1, 61))
+        gives, takes = ([entry(t, "ATOMIC_" + kind, 0x5000, 0x300, 4 | order << 5) for t in threads]
+                        for kind, order, threads in (("UPDATE", 3, range(1, 31)), ("LOAD", 2, range(31, 61))))
+        frames = b"".join(entry(1, "FRAME", 0x400 + d, 0x500 + d, d) for d in range(2000))
+        back = entry(1, "CONTEXT", 0, 0) + entry(1, "CONTEXT", 2000, 0)
+        locks, unlocks = (b"".join(entry(1, kind, 0x6000 + 16 * k, 0x300) for k in range(3000))
+                          for kind in ("LOCK", "UNLOCK"))
+        written = entry(1, "WRITE", 0x7000, 0x301, 4)
+        limited, record = (planted(self.folder / "limited", "main.c", "(1ull << 28)", "(1ull << 16)"),
+                           self.folder / "app.rec")
+        for entries in (b"".join(gives + takes) * 5, frames + (back + written) * 100, locks + unlocks):
+            record.write_bytes(HEADER + forks + entry(2, "WRITE", 0x7000, 0x302, 4) + entries)
+            stacks = self.folder / "stacks"
+            recorder.must(recorder.call(recorder.BUILT / "shb-std", "--stacks", stacks, record))
+            answer = recorder.part(recorder.call(limited, "--stacks", stacks, record))
+            self.assertIn(b"the trace is cut where long ranges, deep stacks, held", answer.stderr)
 
     def test_a_race_of_accesses_far_apart_leaves_room_for_others(self):
         """Between the accesses of x are 22,000 events that a page would keep, those of a lock; y
