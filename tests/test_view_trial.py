@@ -10,7 +10,7 @@ import facts_reader
 import program
 from viewing import QUIET, asked, recorded_run
 
-from shb_view import result, trial
+from shb_view import issue, result, trial
 from shb_view.view import view_of_run
 
 HANDED = ["main|fork(A)|f.c:1", "main|fork(B)|f.c:1", "A|w(x)|f.c:2", "B|r(x)|f.c:6"]
@@ -132,8 +132,9 @@ class Trials(program.Case):
                              (["use 4\tdoor\tA\tf.c:3\tstore release"], "lock")):
             self.group(lines, beside)
             [section] = self.view.sections
-            self.assertEqual((section.fact.tag[-1], section.fact.sentences[0][0]), (
-                f" without a {word}", f"In this run no {word} is held at any access; one thread "))
+            self.assertEqual(section.fact.tag[-1], f" without a {word}")
+            said = issue.flat(section.fact.sentences[0])
+            self.assertIn(f"In this run no {word} is held at any access; one thread writes, at f.c:2.", said)
 
     def test_a_plain_write_beside_an_atomic_read(self):
         lines = [*HANDED[:2], "A|w(x)|f.c:2", "B|r(x)|f.c:6"]

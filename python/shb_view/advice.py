@@ -4,6 +4,7 @@ import re
 
 from shb_common.locations import line_of
 from shb_common.result import text
+from shb_view.facts import worded
 from shb_view.names import by_numbers
 from shb_view.words import Code, listed, lock_name, place
 
@@ -18,14 +19,14 @@ def advised(section, source, functions):
     """A group with what its lines of code advise; `functions` has by location those that it lies in."""
     fact, lines = section.fact, sorted(section.group.locations())
     if all(re.match(LIBRARY, name) for name in section.group.variables):
-        calls = [["call ", Code(name + b"_r"), " at ", place(line)]
+        calls = [worded("call {} at {}", Code(name + b"_r"), place(line))
                  for line in lines for name in re.findall(SHARED, source.code(line) or b"")]
         if calls:
             fact = fact._replace(remedy=[*listed(calls, MOST_CALLS), "."])
     both = next(checks(section, source, functions), None) if fact.form == "without" else None
     if both:
-        remedy = ["hold ", *lock_name(fact.lock), " from ", place(both[0]), " to ", place(both[1]),
-                  ": what was read may have changed in between."]
+        remedy = worded("hold {} from {} to {}: what was read may have changed in between.",
+                        lock_name(fact.lock), *map(place, both))
         fact = fact._replace(said={**fact.said, "check": list(map(text, both))}, remedy=remedy)
     return section._replace(fact=fact)
 

@@ -129,17 +129,15 @@ class Fact(collections.namedtuple("Fact", "form said tag sentences remedy lock h
     def of_gone(self, owner, lines):
         """The fact of lines that use a stack where its thread has a local of a system's function by then."""
         lines = sorted(lines, key=by_numbers)
-        verb = " uses" if len(lines) == 1 else " use"
-        tag = [*listed([[place(line)] for line in lines], MOST_NAMED), verb, " a local of ", Code(owner),
-               " that is gone"]
-        said = ["In a race ", Code(owner), " is in a function of the system, whose local lies there."]
+        tag = worded("{} {} a local of {} that is gone", places(lines), does("use", lines), Code(owner))
+        said = worded("In a race {} is in a function of the system, whose local lies there.", Code(owner))
         return self._replace(said={**self.said, "gone": list(map(text, lines))}, tag=tag, remedy=[],
                              sentences=[*self.sentences, said])
 
     def refuting(self, pair):
         """The fact of variables that race with an order of a store and a load too, without general advice."""
-        said = ["A release at ", place(pair.store.location), " and an acquire at ", place(pair.load.location),
-                " may leave a race."]
+        said = worded("A release at {} and an acquire at {} may leave a race.", place(pair.store.location),
+                      place(pair.load.location))
         return self._replace(said={**self.said, "is_refuted": True}, sentences=[*self.sentences, said],
                              remedy=[] if self.form in ("no-lock", "apart") else self.remedy)
 
@@ -271,17 +269,24 @@ def fact_of(sites, locks, whole, published=()):
     racing = [site for site in sites if site.partners]
     # a line that frees alone says nothing of locks
     used = [site for site in sites if site.accesses[b"f"] < site.total]
-    of_locks = (uncounted(used, whole) if any(site.unknown for site in used)
-                else lock_fact(used, racing, locks, whole))
+    of_locks = uncounted(used) if any(site.unknown for site in used) else lock_fact(used, racing, locks)
     if of_locks and of_locks.form == "without" and any(pair.store.kind == b"update" for pair, _ in published):
         published = ()  # beside a lock what is updated is a counter
-    found = (publication(published) or freed_under_lock(sites, racing, locks, whole) or freed(racing, whole)
-             or not_atomic(racing, whole) or of_locks or no_lock(sites, racing, locks.word, whole))
-    if found.form != "published" or not of_locks or of_locks.form != "without":
+    found = publication(published)
+    if not found:
+        return in_this(whole, freed_under_lock(sites, racing, locks) or freed(racing) or not_atomic(racing)
+                       or of_locks or no_lock(sites, racing, locks.word))
+    if not of_locks or of_locks.form != "without":
         return found
     also = {"form": of_locks.form, **of_locks.said}  # either of the two would fix it
     return found._replace(said={**found.said, "also": also},
-                          sentences=[*found.sentences, *of_locks.sentences])
+                          sentences=[*found.sentences, *in_this(whole, of_locks).sentences])
+
+
+def in_this(whole, fact):
+    """A fact whose first sentence says what it is of."""
+    first, *more = fact.sentences
+    return fact._replace(sentences=[[f"In this {whole} ", *first], *more])
 
 
 def publication(published):
@@ -289,12 +294,13 @@ def publication(published):
     by the second's."""
     if not published:
         return None
-    store, load, *_ = published[0][0]
+    pair = published[0][0]
+    store, load, *_ = pair
     wrong, order = (load, "acquire") if store.gives() else (store, "release")
-    is_one = store.gives() or load.takes()
-    both = "" if is_one else [", and ", place(load.location), " reads it without acquire"]
-    tag = [place(wrong.location), " reads " if wrong is load else " writes ", Code(published[0][0].name),
-           f" without {order}", *both]
+    tag = worded("{} {} {} without {}", place(wrong.location), "reads" if wrong is load else "writes",
+                 Code(pair.name), order)
+    if not store.gives() and not load.takes():
+        tag += worded(", and {} reads it without acquire", place(load.location))
     said = [{"atomic": text(pair.store.name), "store": pair.store.said(), "load": pair.load.said(),
              "missing": pair.lacking(), "races": races}
             for pair, races in published]
@@ -314,13 +320,13 @@ def fixes_of(pair):
 def handed_words(pair):
     """What is said of an atomic that was handed on, as parts."""
     store, load = pair.store, pair.load
-    return [Code(store.thread), " and ", Code(load.thread), " hand this on by the atomic ", Code(pair.name),
-            ": ", place(store.location), " ", *store.words(), " after the first access, and ",
-            place(load.location), " ", *load.words(),
-            f" before the second. Without {' and '.join(pair.lacking())} that orders nothing."]
+    return worded("{} and {} hand this on by the atomic {}: {} {} after the first access, and {} {} before "
+                  "the second. Without {} that orders nothing.", Code(store.thread), Code(load.thread),
+                  Code(pair.name), place(store.location), store.words(), place(load.location), load.words(),
+                  " and ".join(pair.lacking()))
 
 
-def freed_under_lock(sites, racing, locks, whole):
+def freed_under_lock(sites, racing, locks):
     """Racing lines without a lock that all other lines hold: a free is a use of each variable of the block.
     A lock that each free holds comes first, then one that none does."""
     frees = [site for site in racing if site.accesses[b"f"]]
@@ -329,107 +335,99 @@ def freed_under_lock(sites, racing, locks, whole):
     lacking = {lock: sum(site.lacks(lock) for site in frees) for lock in by_weight(sites, locks)[0]
                if not lock.startswith(b"0x")}  # that of a library says nothing
     its = [lock for count in (0, len(frees)) for lock in lacking if lacking[lock] == count]
-    found = next(filter(None, (without(sites, racing, lock, locks, whole) for lock in its)), None)
+    found = next(filter(None, (without(sites, racing, lock, locks) for lock in its)), None)
     if not found:
         return None
-    lines = [site for site in racing if site.lacks(found.lock)]
-    warning = [*lines_of(frees), " frees" if len(frees) == 1 else " free",
-               " the block under it: use what was found there in the same section."]
-    name, said = lock_name(found.lock), {**found.said, "frees": names_of(frees)}
+    warning = worded("{} {} the block under it: use what was found there in the same section.", frees,
+                     does("free", frees))
     is_kept = not lacking[found.lock]
-    until = ", and as long as the block is used." if is_kept else ", and don't use it after the free."
-    return found._replace(said=said, sentences=[*found.sentences, *[warning] * is_kept],
-                          remedy=["hold ", *name, " at ", *lines_of(lines), until])
+    until = ", and as long as the block is used" if is_kept else ", and don't use it after the free"
+    return found._replace(said={**found.said, "frees": names_of(frees)},
+                          sentences=[*found.sentences, *[warning] * is_kept],
+                          remedy=[*found.remedy[:-1], f"{until}."])
 
 
-def freed(racing, whole):
+def freed(racing):
     """Racing lines that free the block which the others use."""
     frees = [site for site in racing if site.accesses[b"f"]]
     if not frees:
         return None
     used = dict.fromkeys(partner for site in frees
                          for partner in sorted(site.partners) if partner != site.location)
-    threads = sorted(set().union(*(site.writers for site in frees)))
-    verb, at = "frees" if len(threads) == 1 else "free", listed([[place(it)] for it in used], MOST_NAMED)
-    uses = ["the use at ", *at] if used else ["another free of it"]
-    sentence = [f"In this {whole} ", *listed([[Code(thread)] for thread in threads], MOST_NAMED),
-                f" {verb} the block at ", *lines_of(frees), ", and nothing orders the free and ", *uses, "."]
+    threads, at = sorted(set().union(*(site.writers for site in frees))), places(used)
+    sentence = worded("{} {} the block at {}, and nothing orders the free and {}.", places(threads),
+                      does("free", threads), frees,
+                      worded("the use at {}", at) if used else "another free of it")
     found = set().union(*(site.later for site in frees if site.accesses[b"f"] == site.total))
     after = [site for site in racing if site.location in found and not site.accesses[b"f"]]
     said = {"frees": names_of(frees), "uses": list(map(text, used)), "after": names_of(after)}
-    remedy = ["don't use it at ", *at, " once it may be freed at ", *lines_of(frees),
-              ", or free it after that use."] if used else ["free it once."]
-    tag = ["freed at ", *lines_of(frees), " while in use"] if used else ["freed twice at ", *lines_of(frees)]
+    remedy = (worded("don't use it at {} once it may be freed at {}, or free it after that use.", at, frees)
+              if used else ["free it once."])
+    tag = worded("freed at {} while in use" if used else "freed twice at {}", frees)
     if after:
-        tag = ["used at ", *lines_of(after), " after it was freed at ", *lines_of(frees)]
-        sentence += [" The use at ", *lines_of(after), " came after it here: a use after free."]
+        tag = worded("used at {} after it was freed at {}", after, frees)
+        sentence += worded(" The use at {} came after it here: a use after free.", after)
     return Fact("freed", said, tag, [sentence], remedy)
 
 
-def not_atomic(racing, whole):
+def not_atomic(racing):
     """Racing lines that aren't atomic, where others are."""
     atomic = [site for site in racing if site.is_atomic()]
     plain = [site for site in racing if not site.is_atomic()]
     if not atomic or not plain:
         return None
-    verb = "is" if len(plain) == 1 else "are"
-    sentence = [f"In this {whole} ", *lines_of(atomic), f" {verb_of(atomic)} atomically, and ",
-                *lines_of(plain), f" {verb} not atomic."]
-    said = {"atomic": names_of(atomic), "plain": names_of(plain)}
+    tag = worded("{} {} not atomic", plain, "is" if len(plain) == 1 else "are")
     wide = [site for site in plain if True in site.widths]
     begins = ", or initialize it before creating threads" * (not any(map(Site.reads, plain)))
-    remedy = (["access its members one by one, atomically, at ", *lines_of(wide), ", or hold one lock at ",
-               *lines_of(racing), "."] if wide else
-              ["access it atomically at ", *lines_of(plain), f" too{begins}."])
-    return Fact("plain", said, [*lines_of(plain), f" {verb} not atomic"], [sentence], remedy)
+    members = "access its members one by one, atomically, at {}, or hold one lock at {}."
+    remedy = (worded(members, wide, racing) if wide
+              else worded("access it atomically at {} too{}.", plain, begins))
+    return Fact("plain", {"atomic": names_of(atomic), "plain": names_of(plain)}, tag,
+                [worded("{} {} atomically, and {}.", atomic, verb_of(atomic), tag)], remedy)
 
 
-def uncounted(sites, whole):
+def uncounted(sites):
     count = counted(sum(site.unknown for site in sites), "access", "accesses")
-    sentence = f"In this {whole} the locks held at {count} aren't counted."
-    return Fact("uncounted", {}, ["locks not counted"], [[sentence]])
+    return Fact("uncounted", {}, ["locks not counted"], [[f"the locks held at {count} aren't counted."]])
 
 
 def by_weight(sites, locks):
     """The locks that are held at some lines and may be told, those that more lines hold at each access first,
     then those that more accesses hold; and of those that lines hold at each access how many do."""
-    guarded, holding = collections.defaultdict(int), collections.Counter()
+    guarded, holding = collections.Counter(), collections.Counter()
     for site in sites:
-        for lock, count in site.guards.items():
-            guarded[lock] += count
+        guarded.update(site.guards)
         holding.update(site.held)
-    def weight(lock):
-        return -holding[lock], -guarded[lock], not isinstance(lock, Own), lock
-    told = set(filter(locks.may_be_rule, guarded))
-    return sorted(told, key=weight), holding.keys() & told
+    told = sorted(filter(locks.may_be_rule, guarded), key=lambda lock: (
+        -holding[lock], -guarded[lock], not isinstance(lock, Own), lock))
+    return told, holding.keys() & told
 
 
-def lock_fact(sites, racing, locks, whole):
+def lock_fact(sites, racing, locks):
     """What is held at the lines, by the first rule that a lock fits, of locks that the rule can be about."""
     names, holding = by_weight(sites, locks)
     wrong = {lock for site in racing for lock, count in site.wrong.items() if count}
-    for rule, its in ((under_read_lock, wrong), (without, holding), (sometimes, set(names))):
-        for lock in filter(its.__contains__, names):
-            found = rule(sites, racing, lock, locks, whole)
-            if found:
-                return found
-    return apart(racing, locks, whole) if any(site.bare < site.total for site in sites) else None
+    for rule, its in ((under_read_lock, wrong), (without, holding), (sometimes, names)):
+        found = next(filter(None, (rule(sites, racing, lock, locks) for lock in names if lock in its)), None)
+        if found:
+            return found
+    return apart(racing, locks) if any(site.bare < site.total for site in sites) else None
 
 
-def under_read_lock(sites, racing, lock, locks, whole):
+def under_read_lock(sites, racing, lock, locks):
     """Racing lines whose writes hold a lock for reading, which keeps out writers alone."""
     wrong = [site for site in racing if site.wrong[lock]]
     if not wrong:
         return None
-    verb, name = "writes" if len(wrong) == 1 else "write", lock_name(lock)
-    sentence = [f"In this {whole} ", *lines_of(wrong), f" {verb} while holding ", *name,
-                " for reading, as other threads can at the same time."]
-    said = {"lines": names_of(wrong), "name": text(lock), "locks": by_variable(locks, lock)}
-    return Fact("read-lock", said, [*lines_of(wrong), f" {verb} under the read lock of ", *name], [sentence],
-                ["hold ", *name, " for writing at ", *lines_of(wrong), "."], lock)
+    writes, name = does("write", wrong), lock_name(lock)
+    sentence = worded("{} {} while holding {} for reading, as other threads can at the same time.", wrong,
+                      writes, name)
+    return Fact("read-lock", {"lines": names_of(wrong), **said_of(lock, locks)},
+                worded("{} {} under the read lock of {}", wrong, writes, name), [sentence],
+                worded("hold {} for writing at {}.", name, wrong), lock)
 
 
-def without(sites, racing, lock, locks, whole):
+def without(sites, racing, lock, locks):
     """Racing lines that don't hold a lock which all others, or all others that race, hold at each access.
     Where they hold other locks, that more lines have this one says that it is theirs too."""
     lacking = [site for site in racing if site.lacks(lock)]
@@ -438,22 +436,20 @@ def without(sites, racing, lock, locks, whole):
     if not is_rule(lacking, holding, variables, lock, is_beside(locks, lock, variables)):
         return None
     scope = scope_of([site for site in sites if site.lacks(lock) and not site.partners], lacking, holding)
-    who = {"writes": ["every write"], "reads": ["every read"], "all": ["every other access"],
-           "lines": ["every access at ", *lines_of(holding)]}[scope]
+    who = {"writes": "every write", "reads": "every read", "all": "every other access",
+           "lines": worded("every access at {}", holding)}[scope]
     some = [site for site in lacking if site.guarded(lock)]
-    name, lines, verb = lock_name(lock), lines_of(lacking), verb_of(lacking)
-    at = (f" at {sum(site.total - site.guarded(lock) for site in lacking):,} of "
-          f"{sum(site.total for site in lacking):,} accesses" if some else "")
-    sentence = [f"In this {whole} ", *who, " holds ", *name, ", and ", *lines, f" {verb} without it{at}."]
-    instead = [[place(site.location), " holds ", *listed(map(lock_name, site.held), MOST_NAMED)]
-               for site in lacking if site.held]
+    name, verb, total = lock_name(lock), verb_of(lacking), sum(site.total for site in lacking)
+    at = f" at {total - sum(site.guarded(lock) for site in lacking):,} of {total:,} accesses" if some else ""
+    sentence = worded("{} holds {}, and {} {} without it{}.", who, name, lacking, verb, at)
+    instead = [worded("{} holds {}", place(site.location), held_at(site)) for site in lacking if site.held]
     if instead:
         sentence += [" ", *listed(instead, MOST_NAMED), "."]
     said = {"lines": names_of(lacking), "sometimes": names_of(some), "scope": scope,
-            "holding": names_of(holding), "name": text(lock),
-            "locks": by_variable(locks, lock), "instead": held_of(lacking, locks)}
-    tag = [*lines, not_always(lacking) if some else f" {verb} without ", *name]
-    return Fact("without", said, tag, [sentence], ["hold ", *name, " at ", *lines, "."], lock)
+            "holding": names_of(holding), **said_of(lock, locks), "instead": held_of(lacking, locks)}
+    tag = (worded("{}{}{}", lacking, not_always(lacking), name) if some
+           else worded("{} {} without {}", lacking, verb, name))
+    return Fact("without", said, tag, [sentence], worded("hold {} at {}.", name, lacking), lock)
 
 
 def is_beside(locks, lock, variables):
@@ -500,13 +496,17 @@ def scope_of(others, lacking, holding):
 
 
 def verb_of(sites):
-    does = ("free" if all(site.accesses[b"f"] == site.total for site in sites)
+    verb = ("free" if all(site.accesses[b"f"] == site.total for site in sites)
             else "read" if not any(site.writes() for site in sites)
             else "write" if not any(site.reads() for site in sites) else "use")
-    return does + "s" * (len(sites) == 1) + " it" * (does in ("free", "use"))
+    return does(verb, sites) + " it" * (verb in ("free", "use"))
 
 
-def sometimes(sites, racing, lock, locks, whole):
+def does(verb, its):
+    return verb + "s" * (len(its) == 1)
+
+
+def sometimes(sites, racing, lock, locks):
     """A lock that racing lines hold at most of their accesses with a lock, and no line at each."""
     some = [site for site in racing if site.lacks(lock) and site.writes() and not holds_another(site, lock)
             and site.guarded(lock) * 2 > site.total - site.bare]
@@ -514,16 +514,16 @@ def sometimes(sites, racing, lock, locks, whole):
         return None
     counts = [[f"{site.guarded(lock):,} of {counted(site.total, 'access', 'accesses')} at ",
                place(site.location)] for site in some]
-    said = {"lines": {text(site.location or b""): [site.guarded(lock), site.total] for site in some},
-            "name": text(lock), "locks": by_variable(locks, lock)}
+    lines = {text(site.location or b""): [site.guarded(lock), site.total] for site in some}
     name = lock_name(lock)
-    sentence = [f"In this {whole} ", *name, " is held at ", *listed(counts, MOST_NAMED), "."]
-    return Fact("sometimes", said, [*lines_of(some), not_always(some), *name], [sentence],
-                ["hold ", *name, " at each access."], lock)
+    return Fact("sometimes", {"lines": lines, **said_of(lock, locks)},
+                worded("{}{}{}", some, not_always(some), name),
+                [worded("{} is held at {}.", name, listed(counts, MOST_NAMED))],
+                worded("hold {} at each access.", name), lock)
 
 
 def not_always(sites):
-    return " doesn't always hold " if len(sites) == 1 else " don't always hold "
+    return f" {'does' if len(sites) == 1 else 'do'}n't always hold "
 
 
 def holds_another(site, lock):
@@ -532,47 +532,41 @@ def holds_another(site, lock):
     return len(counts) > 1 and sum(counts) >= site.total
 
 
-def unlike_words(site):
-    """What a line holds at whose accesses no lock is common."""
-    if site.bare == site.total:
-        return "no lock"
-    return "no lock at some accesses" if site.bare else "a lock, but not the same each time"
+def held_at(site):
+    """What a line holds, as parts."""
+    if site.held:
+        return listed(map(lock_name, site.held), MOST_NAMED)
+    return "no lock" + " at some accesses" * (site.bare < site.total) if site.bare else (
+        "a lock, but not the same each time")
 
 
-def apart(racing, locks, whole):
+def apart(racing, locks):
     """No lock is held at every access of all racing lines."""
     common = set.intersection(*(set(site.held) for site in racing))
     if common:
-        name = lock_name(min(common))
-        sentence = [f"In this {whole} every access holds ", *name, ": these are no races."]
-        return Fact("ordered", {}, ["every access holds ", *name], [sentence])
-    held = [listed(map(lock_name, site.held), MOST_NAMED) or [unlike_words(site)] for site in racing]
-    holds = [[place(site.location), " holds ", *its] for site, its in zip(racing, held)]
+        tag = worded("every access holds {}", lock_name(min(common)))
+        return Fact("ordered", {}, tag, [[*tag, ": these are no races."]])
+    holds = [worded("{} holds {}", place(site.location), held_at(site)) for site in racing]
     all_hold = all(site.held for site in racing)
-    is_bare = racing[0].bare == racing[0].total
-    alone = f" {verb_of(racing)} without a lock" if is_bare else f" holds {unlike_words(racing[0])}"
+    alone = (f" {verb_of(racing)} without a lock" if racing[0].bare == racing[0].total
+             else worded(" holds {}", held_at(racing[0])))
     several = " hold different locks" if all_hold else " have no lock in common"
-    tag = [*lines_of(racing), alone if len(racing) == 1 else several]
     private = sorted(locks.private & {lock for site in racing for lock in (*site.locks, *site.reading)})
-    sentence = [f"In this {whole} ", *listed(holds, MOST_NAMED), ", and no lock is common to them."]
-    only = [["One thread alone uses ", Code(lock), "."] for lock in private[:MOST_NAMED]]
-    said = {"lines": names_of(racing), "all_hold": all_hold, "held": held_of(racing, locks)}
-    return Fact("apart", said, tag, [sentence, *only],
-                [] if private else ["hold one lock at ", *lines_of(racing), "."])
+    only = [worded("One thread alone uses {}.", Code(lock)) for lock in private[:MOST_NAMED]]
+    return Fact("apart", {"lines": names_of(racing), "all_hold": all_hold, "held": held_of(racing, locks)},
+                worded("{}{}", racing, alone if len(racing) == 1 else several),
+                [worded("{}, and no lock is common to them.", listed(holds, MOST_NAMED)), *only],
+                [] if private else worded("hold one lock at {}.", racing))
 
 
-def no_lock(sites, racing, word, whole):
+def no_lock(sites, racing, word):
     """No lock is held at any access."""
     writing = [site for site in racing if site.writes()]
     readers = [site for site in racing if not site.writes()]
     writers, every = (set().union(*(site.writers for site in its)) for its in (racing, sites))
-    verb = "writes" if len(writing) == 1 else "write"
     count = f"{len(every):,} threads" if len(every) > 1 else "one thread"
-    also = [", ", *lines_of(readers), " reads" if len(readers) == 1 else " read"] if readers else []
-    sentence = [f"In this {whole} no {word} is held at any access; {count} ",
-                "writes, at " if len(every) == 1 else "write, at ",
-                *lines_of([*writing, *(site for site in sites if site.writes() and not site.partners)]), "."]
-    said = {"writes": names_of(writing), "writers": sorted(map(text, writers))}
+    sentence = worded("no {} is held at any access; {} {}, at {}.", word, count, does("write", every),
+                      [*writing, *(site for site in sites if site.writes() and not site.partners)])
     names = set().union(*(site.variables for site in racing))
     kinds = {alike(name) for name in names}  # a member of several objects is one, elements of an array aren't
     is_one = (len(kinds) == 1 and (len(names) == 1 or not min(kinds).endswith((b"]", b"*")))
@@ -580,13 +574,20 @@ def no_lock(sites, racing, word, whole):
     tests_it = any(len(site.writers.intersection(reader.threads)) > 1 and not site.reads()
                    and by_numbers(reader.location or b"") < by_numbers(site.location or b"")
                    for site in writing for reader in readers)
-    remedy = [(STEP if tests_it else FLAG) * is_one + "hold one lock at ", *lines_of(racing), "."]
-    tag = [*lines_of(writing), f" {verb}", *also, f" without a {word}"]
-    return Fact("no-lock", said, tag, [sentence], remedy)
+    tag = worded("{} {}", writing, does("write", writing))
+    if readers:
+        tag += worded(", {} {}", readers, does("read", readers))
+    return Fact("no-lock", {"writes": names_of(writing), "writers": sorted(map(text, writers))},
+                [*tag, f" without a {word}"], [sentence],
+                worded("{}hold one lock at {}.", (STEP if tests_it else FLAG) * is_one, racing))
 
 
 def by_variable(locks, lock):
     return {text(variable): text(found) for variable, found in sorted(locks.of(lock).items())}
+
+
+def said_of(lock, locks):
+    return {"name": text(lock), "locks": by_variable(locks, lock)}
 
 
 def held_of(sites, locks):
@@ -599,5 +600,16 @@ def names_of(sites):
     return [text(site.location or b"") for site in sites]
 
 
-def lines_of(sites):
-    return listed([[place(site.location)] for site in sites], MOST_NAMED)
+def places(locations):
+    return listed(([place(it)] for it in locations), MOST_NAMED)
+
+
+def worded(template, *its):
+    """The parts of a text: at each {} there is a text, a name, the lines of sites, or parts."""
+    first, *texts = template.split("{}")
+    found = [first]
+    for one, after in zip(its, texts):
+        if isinstance(one, list) and any(isinstance(part, Site) for part in one):
+            one = places(site.location for site in one)
+        found += [*([one] if isinstance(one, (str, bytes)) else one), after]
+    return list(filter(None, found))

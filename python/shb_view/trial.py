@@ -9,7 +9,7 @@ from shb_common.report import Access, event_of
 from shb_common.variables import without_end
 from shb_common.words import Refused
 from shb_view.analyser import Analyser
-from shb_view.facts import READS, verb_of
+from shb_view.facts import READS, places, verb_of, worded
 from shb_view.held import called
 from shb_view.trace import OPENS, line_of
 from shb_view.words import Code, listed, place
@@ -59,12 +59,12 @@ def moves_of(found, counting):
         before, after = collections.defaultdict(list), {}
         for _, (release, access) in sorted(moved.items()):
             before[release.begin].append(line_of(Access(release.thread, *access, site.location)))
-            after[release[3:]] = ["the release of ", Code(called(release.lock, locks)), " at ",
-                                  place(release.location)]
+            after[release[3:]] = worded("the release of {} at {}", Code(called(release.lock, locks)),
+                                        place(release.location))
         what = listed(after.values(), MOST_NAMED)
         yield Change(set(names), before, {number: release.begin for number, (release, _) in moved.items()},
-                     ["move ", place(site.location), " before ", *what, "."],
-                     [place(site.location), f" {verb_of([site])} after ", *what])
+                     worded("move {} before {}.", [site], what),
+                     worded("{} {} after {}", [site], verb_of([site]), what))
 
 
 def move_of(found, counting):
@@ -81,20 +81,19 @@ def move_of(found, counting):
     repeating = {one.thread for name in found.group.names for one in counting.again.get(name, ())}
     if creator in repeating or not uses_once(found.uses, creator):
         return None
-    step, event = None, 0
+    step, event, where = None, 0, ""
     if words == {b"r"}:
         step = last_join(others, creator, counting.ends, events)
-        event, where = step and step.event + 1, " after the join at "
+        event, where = step and step.event + 1, "after the join"
     elif words == {b"w"} and not repeating and all(uses_once(found.uses, other, False) for other in others):
         step = min((counting.begins[other] for other in others), key=lambda it: it.event)
-        event, where = step.event, " before the thread's creation at "
+        event, where = step.event, "before the thread's creation"
     if not step or not are_in_one(counting.access_kinds.stacks, events, step.event):
         return None
     moved = [gathered.accesses[event] for event in events]
-    at = [[place(location)] for location in dict.fromkeys(access.location for access in moved)]
-    remedy = ["move ", *listed(at, MOST_NAMED), where, place(event_of(without_end(step.line)).location), "."]
+    at = places(dict.fromkeys(access.location for access in moved))
     return Change(set(found.group.names), {event: list(map(line_of, moved))}, dict.fromkeys(events, event),
-                  remedy)
+                  worded("move {} {} at {}.", at, where, place(event_of(without_end(step.line)).location)))
 
 
 def are_in_one(stacks, events, step):

@@ -77,24 +77,19 @@ def thread_parts(site):
 
 def lock_words(site):
     """What is said of the locks held at a line: pairs of `held`, `some` or `none`, and parts."""
-    total = site.total
-    holds = {(name, ""): count for name, count in site.locks.items()}
-    holds.update({(name, " for reading"): count for name, count in site.reading.items()})
-    names = sorted(holds, key=lambda hold: (-holds[hold], hold))
-    always = [hold for hold in names if holds[hold] == total][:MOST_LOCKS]
-    some = [hold for hold in names if holds[hold] < total][:MOST_SOME]
-    found = [("some" if how and site.wrong[name] else "held", ["holds ", *lock_name(name), how])
-             for name, how in always]
-    found += [("some", ["holds ", *lock_name(name), f"{how} at {holds[name, how]:,} of {total:,}"])
-              for name, how in some]
-    if len(names) > len(always) + len(some):
-        found.append(("some", [f"and {len(names) - len(always) - len(some):,} more"]))
-    if site.bare:
-        some = f" at {site.bare:,} of {total:,}"
-        found.append(("none", [NO_LOCK]) if site.bare == total else ("some", [NO_LOCK, some]))
-    if site.unknown:
-        found.append(("some", [f"locks not counted at {site.unknown:,} of {total:,}"]))
-    return found
+    total, of = site.total, f" of {site.total:,}"
+    holds = sorted((-count, name, how) for how, its in (("", site.locks), (" for reading", site.reading))
+                   for name, count in its.items())
+    always = sum(-count == total for count, *_ in holds)
+    shown = [*holds[:min(always, MOST_LOCKS)], *holds[always:always + MOST_SOME]]
+    found = [("some" if -count < total or how and site.wrong[name] else "held",
+              ["holds ", *lock_name(name), how + f" at {-count:,}{of}" * (-count < total)])
+             for count, name, how in shown]
+    more = len(holds) - len(shown)
+    return [*found, *[("some", [f"and {more:,} more"])] * (more > 0),
+            *[("none", [NO_LOCK]) if site.bare == total else ("some", [NO_LOCK, f" at {site.bare:,}{of}"])
+              ] * (site.bare > 0),
+            *[("some", [f"locks not counted at {site.unknown:,}{of}"])] * (site.unknown > 0)]
 
 
 def accesses_text(site, is_counted):
