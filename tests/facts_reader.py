@@ -481,6 +481,9 @@ class Group:
                                       for line in pair
                                       if any(other in frees for other in pair - {line})}:
             yield "other uses"
+        yield from self.check_after()
+
+    def check_after(self):
         for line in self.fact["after"]:
             if not any(free.is_free and not use.is_free and free.number < use.number
                        and free.thread != use.thread and free.variable == use.variable
@@ -595,6 +598,8 @@ class Group:
         if scope in ("writes", "reads") and any(said(access) for line in lines for access in self.used(line)):
             yield f"the lines are no others than {scope}"
         yield from self.check_held(fact["instead"], lines)
+        if "frees" in fact:
+            yield from self.check_after()
         if "check" in fact:
             read, act = fact["check"]
             if (read not in lines or any(access.word != "r" for access in self.used(read))

@@ -308,15 +308,28 @@ class Stacks(program.Case):
         for order, event, headline, fact in (
                 ((0, 1, 2), 3, "freed at a.c:7 while in use", f"{before}."),
                 ((0, 2, 1), 2, "used at a.c:5 after it was freed at a.c:7",
-                 f"{before}. The use at a.c:5 came after it here: a use after free."),
+                 f"{before}. The use at a.c:5 came after the free here: a use after free."),
                 ((0, 1, 2, 3), 3, "used at a.c:6 after it was freed at a.c:7",
-                 f"{before} and a.c:6. The use at a.c:6 came after it here: a use after free.")):
+                 f"{before} and a.c:6. The use at a.c:6 came after the free here: a use after free.")):
             with self.subTest(order):
                 trace = b"".join(lines[k] + b"\n" for k in order) + b"T1|w(z)|b.c:1\nmain|w(z)|b.c:2\n" * 2
                 _, out, _ = self.shown(stacks([0] * 8, TABLES + b"free %d %d\n" % (event, event)),
                                        trace=trace)
                 self.assertIn(f"1. a.c:9#2: {headline} (", out)
                 self.assertIn(f"   {fact}\n", out)
+
+    def test_a_use_after_a_free_under_a_lock(self):
+        """The rule of the lock is told, and that the use did come after the free."""
+        lines = ["main|fork(T1)|a.c:1", *(f"main|{does}|a.c:8" for does in ("acq(m)", "w(a.c:9#2)", "rel(m)")),
+                 *(f"main|{does}|a.c:7" for does in ("acq(m)", "w(a.c:9#2)", "rel(m)"))]
+        for use, is_after in ((4, False), (7, True)):
+            trace = "".join(f"{it}\n" for it in [*lines[:use], "T1|w(a.c:9#2)|a.c:5", *lines[use:]]).encode()
+            free = 7 - is_after
+            _, out, _ = self.shown(stacks([0] * 8, TABLES + b"free %d %d\n" % (free, free)), trace=trace)
+            self.assertIn("1. a.c:9#2: a.c:5 writes without m (", out)
+            self.assertIn("   a.c:7 frees the block under it: use what was found there in the same ", out)
+            said = "   The use at a.c:5 came after the free here: a use after free.\n"
+            self.assertEqual(said in out, is_after)
 
     def test_a_read_of_what_was_freed(self):
         """In the trace a free is a write, and orders what follows such a read; but it wrote nothing."""

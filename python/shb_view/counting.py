@@ -51,7 +51,7 @@ class Kinds:
     def of(self, number, word, variable):
         """The word of `words.KINDS` for an event."""
         if word != b"w":
-            access = self.gathered.accesses.get(number)
+            access = self.loads and self.gathered.accesses.get(number)
             is_load = access and (self.in_trace(variable), access.location) in self.loads
             return b"l" if is_load else word
         return b"a" if variable in self.atomics else b"f" if self.stacks.free_of(number) is not None else word

@@ -17,6 +17,7 @@ from shb_view.words import Code, Own, listed, lock_name, place
 
 MOST_NAMED = 3  # lines in a sentence
 FLAG = "make it atomic if it is a flag or a counter; else "
+USED = "The use at {} came after the free here: a use after free."
 STEP = "test and set it in one step, as by an atomic exchange, or "
 OF_LIBRARY = rb"(?:^|[.:])_[_A-Z]|\._vptr|\.so(?:\.[0-9]+)*:"  # what the program can't make atomic
 DIGITS = rb"[0-9]+"
@@ -342,9 +343,17 @@ def freed_under_lock(sites, racing, locks):
                      does("free", frees))
     is_kept = not lacking[found.lock]
     until = ", and as long as the block is used" if is_kept else ", and don't use it after the free"
-    return found._replace(said={**found.said, "frees": names_of(frees)},
-                          sentences=[*found.sentences, *[warning] * is_kept],
+    after = used_after(racing, frees)
+    return found._replace(said={**found.said, "frees": names_of(frees), "after": names_of(after)},
+                          sentences=[*found.sentences, *[warning] * is_kept,
+                                     *[worded(USED, after)] * bool(after)],
                           remedy=[*found.remedy[:-1], f"{until}."])
+
+
+def used_after(racing, frees):
+    """Racing lines with a use that came after a free in a race that was read."""
+    found = set().union(*(site.later for site in frees if site.accesses[b"f"] == site.total))
+    return [site for site in racing if site.location in found and not site.accesses[b"f"]]
 
 
 def freed(racing):
@@ -358,15 +367,14 @@ def freed(racing):
     sentence = worded("{} {} the block at {}, and nothing orders the free and {}.", places(threads),
                       does("free", threads), frees,
                       worded("the use at {}", at) if used else "another free of it")
-    found = set().union(*(site.later for site in frees if site.accesses[b"f"] == site.total))
-    after = [site for site in racing if site.location in found and not site.accesses[b"f"]]
+    after = used_after(racing, frees)
     said = {"frees": names_of(frees), "uses": list(map(text, used)), "after": names_of(after)}
     remedy = (worded("don't use it at {} once it may be freed at {}, or free it after that use.", at, frees)
               if used else ["free it once."])
     tag = worded("freed at {} while in use" if used else "freed twice at {}", frees)
     if after:
         tag = worded("used at {} after it was freed at {}", after, frees)
-        sentence += worded(" The use at {} came after it here: a use after free.", after)
+        sentence += [" ", *worded(USED, after)]
     return Fact("freed", said, tag, [sentence], remedy)
 
 

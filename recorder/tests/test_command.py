@@ -293,7 +293,7 @@ int main(int count, char **words) {
         status, _, said = self.record(self.program("late_use.c"))
         self.assertEqual(status, 66, said)
         self.assertRegex(said, r"(?m)^1\. .*: used at late_use.c:9 after it was freed at late_use.c:17 \(")
-        self.assertIn("The use at late_use.c:9 came after it here: a use after free.\n", said)
+        self.assertIn("The use at late_use.c:9 came after the free here: a use after free.\n", said)
 
     def test_a_folder_whose_name_is_not_utf8(self):
         folder = os.fsencode(self.folder) + b"/r\xff"
