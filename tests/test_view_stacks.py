@@ -320,8 +320,8 @@ class Stacks(program.Case):
 
     def test_a_use_after_a_free_under_a_lock(self):
         """The rule of the lock is told, and that the use did come after the free."""
-        lines = ["main|fork(T1)|a.c:1", *(f"main|{does}|a.c:8" for does in ("acq(m)", "w(a.c:9#2)", "rel(m)")),
-                 *(f"main|{does}|a.c:7" for does in ("acq(m)", "w(a.c:9#2)", "rel(m)"))]
+        lines = ["main|fork(T1)|a.c:1", *(f"main|{does}|a.c:{at}" for at in (8, 7)
+                                          for does in ("acq(m)", "w(a.c:9#2)", "rel(m)"))]
         for use, is_after in ((4, False), (7, True)):
             trace = "".join(f"{it}\n" for it in [*lines[:use], "T1|w(a.c:9#2)|a.c:5", *lines[use:]]).encode()
             free = 7 - is_after
