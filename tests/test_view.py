@@ -41,7 +41,6 @@ fork-join.std: 1 place with races, in 1 group (7 events, 2 threads, 0 locks, 2 v
 
 FORK_JOIN_ALL = FORK_JOIN + """
    data race on count: worker.c:3 and start.c:6
-   (one race in a recorded run)
      write by worker at worker.c:3 (event 4)
        no lock held
        thread started by main at start.c:5 (event 2)

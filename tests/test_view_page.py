@@ -111,8 +111,8 @@ class Pages(program.Case):
 
     def test_the_text_of_a_group(self):
         [(_, issue)] = self.page(self.example("fork-join")).all("pre")
-        self.assertEqual(issue.splitlines()[:3],
-                         ["data race on count: worker.c:3 and start.c:6", "(one race in a recorded run)",
+        self.assertEqual(issue.splitlines()[:2],
+                         ["data race on count: worker.c:3 and start.c:6",
                           "  write by worker at worker.c:3 (event 4)"])
 
     def test_events_by_hand(self):

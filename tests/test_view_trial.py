@@ -167,14 +167,16 @@ class Trials(program.Case):
 
     def test_a_check_before_an_act(self):
         """A line that branches on what it reads, before one of its function that has the lock: it is held
-        over both. Not if the line doesn't branch, or the other is of another function, or before it."""
-        code = ["a();", "b();", "if (x > 0) {", "lock();", "x--;", "unlock();", "y = x;"]
-        os.utime(self.file("\n".join(code).encode(), "f.c"), (1000, 1000))
+        over both. Not in a loop, which may wait, nor if the other is of another function, or before it."""
         its = [f"{thread}|{does}|f.c:{at}" for thread in "AB"
                for does, at in (("r(x)", 3), ("acq(m)", 4), ("w(x)", 5), ("rel(m)", 6), ("r(x)", 7))]
         both = [it for it in its if not it.endswith("7")]
-        for lines, function, check in ((both, "take", ["f.c:3", "f.c:5"]), (both, "act", None),
-                                       ([it for it in its if not it.endswith("3")], "take", None)):
+        late = [it for it in its if not it.endswith("3")]
+        for branch, lines, function, check in (
+                ("if", both, "take", ["f.c:3", "f.c:5"]), ("if", both, "act", None),
+                ("if", late, "take", None), ("while", both, "take", None)):
+            code = ["a();", "b();", f"{branch} (x > 0) {{", "lock();", "x--;", "unlock();", "if (x) z = x;"]
+            os.utime(self.file("\n".join(code).encode(), "f.c"), (1000, 1000))
             beside = ["frame take\tf.c:3", "frame take\tf.c:7", f"frame {function}\tf.c:5"]
             group, remedy = self.group([*HANDED[:2], *lines], beside, held={"f.c:5": "m"})
             self.assertEqual((group["form"], group.get("check")), ("without", check))

@@ -12,7 +12,7 @@ MOST_CALLS = 3
 # What has its result where all threads have it, in a library; with `_r` behind its name it hasn't.
 SHARED = rb"\b(asctime|ctime|get(?:gr|host|pw)\w+|gmtime|localtime|strerror|strtok)\s*\("
 LIBRARY = rb"lib\w[^:]*\.so[^:]*:"
-BRANCH = rb"\b(?:if|while|switch)\s*\(|\?"
+BRANCH = rb"\b(?:if|switch)\s*\(|\?"  # not a loop, which may wait for what the lock keeps off
 
 
 def advised(section, source, functions):

@@ -21,7 +21,6 @@ def issue_lines(view, section):
     one, other = (window.events[access].event for access in window.accesses)
     yield (f"data race on {short(view.kinds.name(one.name), NAME)}: "
            f"{flat([place(one.location), ' and ', place(other.location)])}")
-    yield "(one race in a recorded run)"
     for access in window.accesses:
         yield from access_lines(view, window, access)
     allocated = stack_lines(view.stacks.of_variable(view.kinds.in_trace(one.name)))
