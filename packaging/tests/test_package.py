@@ -1,17 +1,35 @@
 """The package: the same bytes from the same commit, and a folder that works by itself."""
 
+import functools
 import os
 import re
 import shutil
 import sys
 import tarfile
+from unittest import mock
 
 import installing
 from installing import TOP, call
+from shb_install import package
+from shb_install.sources import Commit
 
 README = TOP / "README.md"
 LOGIC = re.search(r"^logic=([0-9a-f]{16})$", (TOP / "build.sh").read_text(), re.M)[1]
 COMMIT_DAY, COMMIT_TIME = "2026.01.02", 1767319445      # of copy_of_repository
+PROVED = "share/doc/shb/PROVED.md"
+
+
+@functools.lru_cache(maxsize=None)
+def debian(name, mask=0o022):
+    """A package of Debian that is made in a copy of the repository."""
+    copy = installing.room() / name
+    old = os.umask(mask)
+    call("git", "clone", "-q", installing.packaged()[0], copy)
+    installing.make(copy, "deb")
+    os.umask(old)
+    [made] = copy.glob("*.deb")
+    call("sha256sum", "--check", f"{made.name}.sha256", cwd=copy)
+    return made
 
 
 class Package(installing.Case):
@@ -55,43 +73,34 @@ class Package(installing.Case):
         call("sha256sum", "--check", f"{package.name}.sha256", cwd=copy)
 
     def test_a_program_that_was_built_here(self):
-        """By the sum that build.sh leaves, also where the package has the program stripped."""
-        copy = self.clone()
-        (copy / "bin").mkdir()
-        checksum = call("sha256sum", installing.SHB).split()[0]
-        for left, wanted in ((checksum, "only after all its proofs passed"),
+        """By the sum that build.sh leaves, also if the package has the program stripped."""
+        shb, made = self.folder / "bin/shb", self.folder / "made"
+        for path, text in ((shb, "built"), (made / "bin/shb", "stripped"), (made / PROVED, ""),
+                           (self.folder / "build.sh", f"logic={LOGIC}\n")):
+            path.parent.mkdir(parents=True, exist_ok=True)
+            path.write_text(text)
+        commit = Commit("2026.01.02-abc", "abc", "1", "", "")
+        for left, wanted in ((package.checksum_of(shb), "only after all its proofs passed"),
                              ("0" * 64, "was named by\nwho made this package")):
-            (copy / "bin/shb.sum").write_text(f"{left}  -\n")
-            installing.make(copy, "deb")
-            [package] = copy.glob("*.deb")
-            call("dpkg", "-x", package, copy / left)
-            self.assertIn(wanted, (copy / left / "usr/share/doc/shb/PROVED.md").read_text())
-            package.unlink()
-
-    def debian(self, folder, mask=0o022):
-        """A package of Debian that is made in a copy of the repository."""
-        copy = self.folder / folder
-        old = os.umask(mask)
-        call("git", "clone", "-q", installing.packaged()[0], copy)
-        installing.make(copy, "deb")
-        os.umask(old)
-        [package] = copy.glob("*.deb")
-        call("sha256sum", "--check", f"{package.name}.sha256", cwd=copy)
-        return package
+            (self.folder / "bin/shb.sum").write_text(f"{left}  -\n")
+            with mock.patch.object(package, "TOP", self.folder):
+                package.put_proved(made, shb, commit)
+            self.assertIn(wanted, (made / PROVED).read_text())
+            self.assertIn(package.checksum_of(made / "bin/shb"), (made / PROVED).read_text())
 
     def test_a_package_of_debian(self):
         """The same bytes from two folders with other masks; unpacked, its commands run."""
         self.need("dpkg-shlibdeps")
-        package, tree = self.debian("one"), self.folder / "tree"
-        self.assertEqual(package.read_bytes(), self.debian("another folder", 0o077).read_bytes())
-        commit = call("git", "-C", package.parent, "rev-parse", "HEAD").strip()
+        deb, tree = debian("one"), self.folder / "tree"
+        self.assertEqual(deb.read_bytes(), debian("another folder", 0o077).read_bytes())
+        commit = call("git", "-C", deb.parent, "rev-parse", "HEAD").strip()
         version = f"{COMMIT_DAY}+{commit[:12]}"
-        self.assertEqual(package.name, f"shb_{version}_amd64.deb")
-        self.assertIn(" libdw1 (>= ", call("dpkg-deb", "--field", package, "Depends"))
-        fields = call("dpkg-deb", "--field", package, "Package", "Version", "Architecture", "Maintainer")
+        self.assertEqual(deb.name, f"shb_{version}_amd64.deb")
+        self.assertIn(" libdw1 (>= ", call("dpkg-deb", "--field", deb, "Depends"))
+        fields = call("dpkg-deb", "--field", deb, "Package", "Version", "Architecture", "Maintainer")
         self.assertEqual(fields, f"Package: shb\nVersion: {version}\nArchitecture: amd64\nMaintainer: "
                                  "maintainers <maintainers@shb.example>\n")
-        call("dpkg-deb", "--extract", package, tree)
+        call("dpkg-deb", "--extract", deb, tree)
         self.assertEqual([path.name for path in tree.iterdir()], ["usr"])
         said = call(tree / "usr/bin/shb", "races", "--list",
                     tree / "usr/share/doc/shb/examples/fork-join.std")
@@ -102,7 +111,7 @@ class Package(installing.Case):
         """As lintian judges it, if it is installed."""
         self.need("dpkg-shlibdeps")
         self.need("lintian")
-        ran = installing.subprocess.run(["lintian", "--allow-root", self.debian("one")],
+        ran = installing.subprocess.run(["lintian", "--allow-root", debian("one")],
                                         stdout=installing.subprocess.PIPE, timeout=installing.SECONDS)
         self.assertEqual([line for line in ran.stdout.decode().splitlines() if line.startswith("E:")], [])
 
@@ -116,7 +125,7 @@ class Package(installing.Case):
         (root / "var/lib/dpkg/status").touch()
         dpkg = ["dpkg", f"--root={root}", f"--log={self.folder}/log", "--force-script-chrootless",
                 "--force-depends", "--force-not-root", "--force-bad-path"]
-        call(*dpkg, "--install", self.debian("one"))
+        call(*dpkg, "--install", debian("one"))
         compiled = {path: path.read_bytes() for path in (root / "usr/lib/shb").rglob("*.pyc")}
         self.assertEqual(len(compiled), len(list((root / "usr/lib/shb").rglob("*.py"))))
         self.assertIn("Usage: shb ", call(root / "usr/bin/shb", "--help"))
