@@ -4,10 +4,10 @@ with those of xargs.
 
     by_hand_slurm.py SHB WORK [NAME..]
 
-WORK is a new folder for all that is made. NAMEs choose among: plain, node, controller, twice, memory, disk,
-many. It is run by hand, as root, and installs nothing: Debian's packages are slurm-wlm and munge. Every
-daemon that it starts it ends by its own process number; a node runs in a namespace of its own, so that
-killing it kills all that it runs, as a power failure does.
+WORK is a new folder for all that is made. NAMEs choose among: plain, node, controller, twice, disk, many. It
+is run by hand, as root, and installs nothing: Debian's packages are slurm-wlm and munge. Every daemon that it
+starts it ends by its own process number; a node runs in a namespace of its own, so that killing it kills all
+that it runs, as a power failure does.
 """
 
 import contextlib
@@ -237,42 +237,10 @@ def twice(cluster, farm, out):
     return farm.took("slurm, second of two", second)
 
 
-def memory(cluster, farm, out):
-    """Both nodes have so little memory that the kernel kills what they run; then they have enough."""
-    groups = pathlib.Path("/sys/fs/cgroup/memory")
-    if not (groups / "memory.limit_in_bytes").exists():
-        print("  skipped: there is no memory controller in its first version")
-        return None
-    own = re.search(r"^\d+:memory:(.*)$", pathlib.Path("/proc/self/cgroup").read_text(), re.M)[1]
-    group = groups / own.lstrip("/") / "shb-farm-nodes"
-    group.mkdir()
-    try:
-        (group / "memory.limit_in_bytes").write_text(str(60 << 20))
-        restart_in(cluster, group)
-        status = farm.took("slurm with 60 MiB for both nodes", farm.slurm(out))
-        kills = re.search(r"oom_kill (\d+)", (group / "memory.oom_control").read_text())
-        print(f"  {kills[1] if kills else '?'} processes were killed for memory, {farm.made(out)} of "
-              f"{farm.count} outcomes", flush=True)
-        restart_in(cluster, group.parent)
-    finally:
-        restart_nodes(cluster)
-        time.sleep(2)
-        group.rmdir()
-    return status
-
-
 def restart_nodes(cluster):
     for name in ("n1", "n2"):
         cluster.kill(name)
     cluster.up()
-
-
-def restart_in(cluster, group):
-    """Starts both nodes anew in a group of processes: a child joins the group of its parent."""
-    home = (group.parent if group.name == "shb-farm-nodes" else group) / "cgroup.procs"
-    (group / "cgroup.procs").write_text(str(os.getpid()))
-    restart_nodes(cluster)
-    home.write_text(str(os.getpid()))
 
 
 def disk(cluster, farm, out):
@@ -295,7 +263,7 @@ def disk(cluster, farm, out):
     return status
 
 
-SCENES = {scene.__name__: scene for scene in (plain, node, controller, twice, memory, disk)}
+SCENES = {scene.__name__: scene for scene in (plain, node, controller, twice, disk)}
 
 
 def main(words):
