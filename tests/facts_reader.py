@@ -625,7 +625,7 @@ class Group:
     def has_without(self, are_kept=False):
         """Whether locks of one kind, one for each variable, are held at each access of some lines, and all
         racing lines without them hold none, or hold these at times, or are fewer. With `are_kept` frees are
-        accesses, and all or none of them hold these."""
+        accesses, and all of them hold one lock, or none these."""
         kinds = collections.defaultdict(lambda: collections.defaultdict(set))
         for access in self.all if are_kept else self.used():
             for lock in filter(self.may_be_rule, access.held | access.shared):
@@ -635,7 +635,8 @@ class Group:
         frees = [access for access in self.racing() if access.is_free] if are_kept else ()
         choices = (dict(zip(by, locks)) for by in kinds.values() if self.variables <= set(by)
                    for locks in itertools.islice(itertools.product(*by.values()), MOST_CHOICES))
-        return any(len({self.has(free, of.get(free.variable)) for free in frees}) < 2
+        return any({self.has(free, of.get(free.variable)) for free in frees} in (
+                       set(), {False}, {len(set(of.values())) == 1})
                    and self.is_without(of, self.all if are_kept else self.used()) for of in choices)
 
     def is_without(self, of, uses):

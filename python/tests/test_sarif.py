@@ -152,9 +152,9 @@ class Log(Base):
         result = self.log()["results"][0]
         self.assertEqual(result["message"],
                          {"text": "Data race on `x` between a.c:1 and [b.c:2](1). In this trace no lock is "
-                                  "held at any access; 2 threads write, at a.c:1 and b.c:2. Remedy: make it "
-                                  "atomic if it is a flag or a counter; else hold one lock at a.c:1 and "
-                                  "b.c:2. 1 of 1 traces has it, for example race.std."})
+                                  "held at any access; 2 threads write, at a.c:1 and b.c:2. Remedy: hold "
+                                  "one lock at a.c:1 and b.c:2. 1 of 1 traces has it, for example "
+                                  "race.std."})
         place = lambda uri, line: {"artifactLocation": {"uri": uri, "uriBaseId": "SRCROOT"},
                                    "region": {"startLine": line}}
         self.assertEqual(result["locations"], [{"physicalLocation": place("a.c", 1)}])
