@@ -253,6 +253,29 @@ class Decided(recorder.Case):
         with self.assertRaisesRegex(converting.Contradiction, said):
             found(path, converter, True)
 
+    def test_a_fence_takes_all_that_was_read(self):
+        """What each of two threads gave, and what a value gave that a store replaced, though who gave last
+        had taken all that the new one gave."""
+        path, x, y, atomic = self.folder / "app.rec", 0x5000, 0x5008, 0x6000
+        forks = [Step(0, "FORK", child, 0x100 + child) for child in (1, 2, 3, 4)]
+        first = [Step(1, "WRITE", x, 0x201, 4), Step(1, "ATOMIC_UPDATE", atomic, 0x202, 4 | 3 << 5)]
+        reads = [Step(3, "ATOMIC_LOAD", atomic, 0x401, 4)]
+        fence = [Step(3, "FENCE", 0, 0x402, 2), Step(3, "READ", x, 0x403, 4), Step(3, "READ", y, 0x404, 4)]
+        second = [Step(2, "WRITE", y, 0x301, 4), Step(2, "ATOMIC_UPDATE", atomic, 0x302, 4 | 3 << 5)]
+        replaced = [Step(2, "ATOMIC_STORE", atomic, 0x302, 4 | 3 << 5),
+                    Step(4, "ATOMIC_LOAD", atomic, 0x501, 4 | 2 << 5),
+                    Step(4, "ATOMIC_UPDATE", atomic, 0x502, 4 | 3 << 5)]
+        for steps, before, after in (
+                (first + second + reads, "if (g.taken > from) from = g.taken;", "break;"),
+                (first + reads + replaced + reads, "last->to == from && from > o->begun",
+                 "last->to == from")):
+            path.write_bytes(HEADER + b"".join(entry(*step) for step in forks + steps + fence))
+            wanted = Analysis(forks + steps + fence).races.keys()
+            self.assertNotIn((0x201, 0x403), wanted)
+            self.assertEqual(listed(path, recorder.BUILT / "shb-std").keys(), wanted)
+            faulty = test_open.planted(self.folder / before[:4], "objects.c", before, after)
+            self.assertIn((0x201, 0x403), listed(path, faulty))
+
     def test_a_free_ends_with_its_block(self):
         """Who reads bytes behind it sees who wrote these, and comes after that thread's other accesses."""
         path, cell, block = self.folder / "app.rec", 0x5000, 0x8000
@@ -273,7 +296,8 @@ class Decided(recorder.Case):
         steps = [Step(0, "FORK", 1, 0x101), Step(0, "ALLOC", block, 0x102, 64),
                  *(Step(0, "WRITE", block + at, 0x103, 2) for at in range(0, 64, 2)),
                  Step(0, "FREE", block, 0x104), Step(0, "ALLOC", block, 0x105, 64),
-                 Step(0, "WRITE", block, 0x106, 16), *(Step(1, "WRITE", block + at, 0x201, 8) for at in (0, 8))]
+                 Step(0, "WRITE", block, 0x106, 16),
+                 *(Step(1, "WRITE", block + at, 0x201, 8) for at in (0, 8))]
         path.write_bytes(HEADER + b"".join(entry(*step) for step in steps))
         races = {(0x106, 0x201): {(2, 0), (2, 8)}}
         self.assertEqual(found(path, recorder.BUILT / "shb-std", True), (races, 2))
@@ -377,8 +401,6 @@ FAULTS = {  # to plant in the converter: the file, what stands there, and what i
     "a wait takes one post": ("objects.c", "!is_last_post(o, p)) continue;",
                               "k < o->posts.count) continue;"),
     "a poster had taken all": ("objects.c", "(p->taken > first) first = p->taken;", "(1) break;"),
-    "a fence takes one version": ("objects.c", "if (g.taken > from) from = g.taken;", "break;"),
-    "notes go on behind a store": ("objects.c", "last->to == from && from > o->begun", "last->to == from"),
     "more than gifts is given on": ("objects.c", " || threads[t].gave != index_of(o) + 1", ""),
     "no begin of a thread that did nothing": ("main.c", "if (!has_events(child) &&", "if (0 &&"),
     "half of what is freed": ("records.c", "MAX_FREED = 1024", "MAX_FREED = 512"),
