@@ -350,7 +350,7 @@ class Statuses(Fake):
             self.assertIsNone(ran.poll())
         ran.send_signal(signal.SIGINT)
         out, err = ran.communicate(timeout=program.SECONDS)
-        self.assertEqual((ran.returncode, out, err), (2, b"", b"shb-view: stopped\n"))
+        self.assertEqual((ran.returncode, out, err), (-signal.SIGINT, b"", b""))
 
     def test_out_of_memory(self):
         from shb_view import command

@@ -1,6 +1,7 @@
 """Which Python the commands need. An older one, or one without its whole library, can read this file and the
 commands' own, and says so."""
 
+import _signal  # `signal` takes its time
 import gc
 import importlib
 import os
@@ -27,8 +28,18 @@ def run(command, status):
         end("Python %d.%d or later is needed, and this is %d.%d" % (NEEDED + sys.version_info[:2]))
     sys.excepthook = told
     gc.set_threshold(COLLECT_EVERY)
-    status = importlib.import_module(command.replace("-", "_") + ".command").main(sys.argv[1:])
+    module = importlib.import_module(command.replace("-", "_") + ".command")
+    is_stopped = _signal.getsignal(_signal.SIGINT) == _signal.SIG_DFL    # else it ignores Ctrl-C
     try:
+        if is_stopped:
+            _signal.signal(_signal.SIGINT, _signal.default_int_handler)
+        status = module.main(sys.argv[1:])
+    except KeyboardInterrupt:
+        _signal.signal(_signal.SIGINT, _signal.SIG_DFL)
+        os.kill(os.getpid(), _signal.SIGINT)
+    try:
+        if is_stopped:
+            _signal.signal(_signal.SIGINT, _signal.SIG_DFL)
         sys.stdout.flush()
         sys.stderr.flush()
     except OSError:

@@ -205,8 +205,6 @@ def main(words):
         return run(arguments(words))
     except (Refused, OSError) as fault:
         said = words_of(fault)
-    except KeyboardInterrupt:
-        return 130
     except Exception:
         # 1, with which Python would end, says that there is an unknown place
         said = traceback.format_exc().rstrip()

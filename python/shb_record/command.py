@@ -12,8 +12,9 @@ import signal
 from shb_common import known
 from shb_common.children import adopt_orphans
 from shb_common.commands import Parser, number
+from shb_common.files import put
 from shb_common.limits import MOST_EVENTS
-from shb_common.standard import open_standard_files, words_of
+from shb_common.standard import faults_of, open_standard_files, words_of
 from shb_common.stops import Stops
 from shb_common.words import Refused, counted, printable
 from shb_record.at_once import jobs_of, outcomes
@@ -224,18 +225,27 @@ def record(options):
     finally:
         stops.close()
         rows = look.places.rows()
-        status = status_of(look, rows)
         is_recorded = bool(look.runs) or results.has_more()
         if is_recorded:
-            for name, text in tables_of(look, rows, status).items():
-                with open(results.tables[name], "wb") as file:
-                    file.write(text)
+            write_tables(look, rows)
         results.close(is_recorded)
+    status = status_of(look, rows)
     if is_recorded:
         conclude(look, rows, status)
     else:
         say(f"nothing was recorded; the program's own status: {look.own}")
     return status
+
+
+def write_tables(look, rows):
+    """Writes each table whole, or not at all."""
+    results = look.results
+    for name, text in tables_of(look, rows, status_of(look, rows)).items():
+        try:
+            with faults_of(results.tables[name]):
+                put(results.tables[name], text, results.work)
+        except OSError as fault:
+            look.fail(fault)
 
 
 def run_all(look):
@@ -341,6 +351,4 @@ def main(words):
         return CANNOT_RUN
     except (Refused, OSError) as fault:
         say(words_of(fault))
-    except KeyboardInterrupt:
-        say("stopped")
     return FAILED

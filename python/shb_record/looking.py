@@ -86,7 +86,7 @@ class Look:
         except (Refused, OSError) as fault:
             self.fail(fault)
             self.say_unshown(looked)
-            if os.path.exists(process.record):
+            if os.path.exists(process.record) and os.path.getsize(process.record):
                 self.keep_failed(process)
             return None
         if self.options.keep and do == self.show:

@@ -8,6 +8,7 @@ import re
 import shutil
 import time
 
+from shb_common.standard import faults_of
 from shb_common.words import Refused
 from shb_record.parts import files_in, now, say
 
@@ -51,6 +52,9 @@ class Results:
                 if name in TABLES or re.fullmatch(OURS, name)}
         kept = [name for name, path in ours.items()
                 if spared and os.path.exists(path) and os.path.samefile(path, spared)]
+        for name, path in ours.items():
+            if os.path.isfile(f"{path}/{LIST}"):
+                say(f"{path} is deleted: the records of an earlier call that was killed")
         removed = [name for name in reversed(ours) if name not in kept and remove(ours[name])]
         if removed:
             say(f"replacing the results in {self.folder}, made{first[len(LIST_BEGIN):]}")
@@ -61,8 +65,9 @@ class Results:
         path = f"{self.folder}/{name}"
         if os.path.lexists(path) and not is_there:
             raise Refused(f"{path} is there, and shb-record didn't make it; name another folder with -o")
-        self.list.write(f"{name}\n")
-        self.list.flush()
+        with faults_of(f"{self.folder}/{LIST}"):
+            self.list.write(f"{name}\n")
+            self.list.flush()
         self.names.append(name)
         return path
 
@@ -88,7 +93,8 @@ class Results:
             os.unlink(f"{self.folder}/{LIST}")
             with contextlib.suppress(OSError):
                 os.rmdir(self.folder)   # which may have others' files
-        self.list.close()
+        with contextlib.suppress(OSError):
+            self.list.close()   # fails again if the disk is full
 
 
 def unused_folder(folder):

@@ -125,8 +125,4 @@ def explain(make, *words):
 
 def main(words, program=ANALYSER):
     is_open = open_standard_files()
-    try:
-        return explain(show, arguments(words, program), sys.stdout if is_open else None)[0]
-    except KeyboardInterrupt:
-        tell("shb-view: stopped")
-        return 2
+    return explain(show, arguments(words, program), sys.stdout if is_open else None)[0]

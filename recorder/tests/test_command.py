@@ -687,10 +687,30 @@ int main(int count, char **words) {
         self.assertEqual((status, "run `shb-record env LD_PRELOAD=libtsan.so.2 sh`. If it starts such a "
                                   "program, it must pass on" in said), (125, True))
 
-    def test_no_proc_is_the_cause_where_there_is_none(self):
+    def mount(self):
         if (os.getuid() or subprocess.run(["unshare", "--mount", "true"],
                                           stderr=subprocess.DEVNULL).returncode):
-            self.skipTest("only who may mount folders can hide /proc")
+            self.skipTest("only who may mount folders can hide /proc, or fill a disk")
+
+    def test_a_full_disk(self):
+        """The table that can't be written is named, and none is there by half; so is the program's own
+        status."""
+        self.mount()
+        disk = self.folder / "disk"
+        disk.mkdir()
+        for room in 4, 68:
+            status, _, said = self.record("--mount", "sh", "-c",
+                                          f'mount -t tmpfs -o size={room}k tmpfs {disk}; "$@"; s=$?; '
+                                          f"ls -s --block-size=1 {disk}/r; exit $s", "sh", recorder.COMMAND,
+                                          "-o", disk / "r", "sh", "-c", f"{self.program()} 0; exit 3",
+                                          command="unshare")
+            self.assertEqual(status, 125, said)
+            for table in "places.json", "places.sarif", "index.html":
+                self.assertIn(f"shb-record: {disk}/r/{table}: No space left on device\n", said)
+            self.assertIn("; not all could be looked at; the program's own status: 3; files in ", said)
+
+    def test_no_proc_is_the_cause_where_there_is_none(self):
+        self.mount()
         status, _, said = self.record("--mount", "sh", "-c", 'mount -t tmpfs tmpfs /proc && exec "$@"', "sh",
                                       recorder.COMMAND,
                                       self.program(), "0", command="unshare")
@@ -1037,6 +1057,31 @@ int main(int count, char **words) {
             [record] = (self.folder / "status.shb").glob("*.rec")
             self.assertIn(f"the record is kept: {record}\n", said)
             recorder.must(recorder.convert(record))
+
+    def test_ctrl_c_at_any_moment(self):
+        """Each command ends by the signal, or after it with its status, and gives no traceback of its own;
+        Python itself does so while it starts."""
+        trace = recorder.SOURCES.parent / "examples" / "account.std"
+        how = {**os.environ, "SHB": str(recorder.SHB)}
+        of_signal = 0
+        for number in range(100):
+            name = ("shb-record", "shb-view", "shb-farm", "shb-fix")[number % 4]
+            ran = subprocess.Popen([recorder.COMMAND.parent / name, trace], env=how, cwd=self.folder,
+                                   stdout=subprocess.DEVNULL, stderr=subprocess.PIPE,
+                                   preexec_fn=lambda: signal.signal(signal.SIGINT, signal.SIG_DFL))
+            time.sleep(number / 400)
+            ran.send_signal(signal.SIGINT)
+            said = ran.communicate()[1].decode()
+            self.assertNotRegex(said, "import os|shb_", (name, number))
+            of_signal += ran.returncode == -signal.SIGINT
+        self.assertGreater(of_signal, 0)
+
+    def test_the_folder_of_a_call_that_was_killed_is_named(self):
+        self.assertEqual(self.stopped(["KILL", "KILL"], "shb")[0], -signal.SIGKILL)
+        [work] = (self.folder / "status.shb").glob("work-*")
+        said = self.record(self.program(), "0")[2]
+        self.assertIn(f"shb-record: {work} is deleted: the records of an earlier call that was killed\n",
+                      said)
 
     def test_a_command_that_is_killed_leaves_no_helper(self):
         for at in "shb", "shb-std":
