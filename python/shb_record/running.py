@@ -10,7 +10,7 @@ import time
 
 from shb_common.stops import STOPS
 from shb_common.words import Refused, counted, printable
-from shb_record.modules import is_behind
+from shb_record.modules import is_behind, told
 from shb_record.parts import LIBRARY, say
 
 SEGMENT = 1 << 20  # records, with --live
@@ -151,12 +151,21 @@ MARKS = {b"Go build ID": "Go", b"/rustc/": "Rust"}  # that compilers leave in a 
 def cause(program):
     """Why the program left no record, as its file tells, in sentences."""
     import mmap  # most calls do without
-    with open(shutil.which(program), "rb") as file:
+    path = shutil.which(program)
+    with open(path, "rb") as file:
         if file.read(4) != b"\x7fELF":
             return "No program that it started was compiled with -fsanitize=thread."
         with mmap.mmap(file.fileno(), 0, access=mmap.ACCESS_READ) as content:
             has_hooks, has_library = content.find(b"__tsan_init") >= 0, content.find(b"libtsan.so") >= 0
             languages = [language for mark, language in MARKS.items() if content.find(mark) >= 0]
+            has_asan = content.find(b"__asan_init") >= 0
+    kind = told(os.fsencode(os.path.realpath(path)), "kind")
+    if kind and b"program" not in kind:
+        return "It is statically linked: link it dynamically, without -static."
+    if any(name == b"libc.so" or name.startswith(b"libc.musl") for name in kind[b"library"]):
+        return "It is linked with musl: the recorder needs glibc."
+    if has_asan:
+        return "It is built for AddressSanitizer: build it with -fsanitize=thread alone."
     if not has_hooks:
         words = shlex.join(["shb-record", "env", f"LD_PRELOAD={PRELOADED}", program])
         return (f"Was it compiled and linked with -fsanitize=thread? If only a plug-in was, run `{words}`. "

@@ -671,11 +671,21 @@ int main(int count, char **words) {
     def test_no_record_has_a_likely_cause(self):
         for compiled, cause in (((), "/status left no record. Was it compiled and linked with "
                                      "-fsanitize=thread? If only a plug-in was, run"),
+                                (("-static",), "/status left no record. It is statically linked: link it "
+                                 "dynamically, without -static.\n"),
+                                (("-fsanitize=address",), "It is built for AddressSanitizer: build it with "
+                                 "-fsanitize=thread alone.\n"),
                                 (("-fsanitize=thread", "-static-libtsan"), "ThreadSanitizer's own library is "
                                  "linked into it")):
             status, _, said = self.record(self.program(sanitized=compiled), "0")
             self.assertEqual(status, 125)
             self.assertIn(cause, said)
+        library = self.folder / "libc.so"  # as musl's is named
+        recorder.must(recorder.call("gcc", "-shared", "-Wl,-soname,libc.so", "-xc", "/dev/null", "-o",
+                                    library))
+        musl = self.program("status.c", "-Wl,--no-as-needed", library, f"-Wl,-rpath,{self.folder}",
+                            sanitized=())
+        self.assertIn("It is linked with musl: the recorder needs glibc.\n", self.record(musl, "0")[2])
         mark = self.folder / "mark.c"
         mark.write_text('__attribute__((used)) const char mark[] = "Go build ID: \\"x\\"";')
         status, _, said = self.record(self.program("status.c", mark,
