@@ -8,6 +8,7 @@ from shb_common.standard import tell
 from shb_common.words import printable
 
 COLUMNS = 80
+SHORT = 58      # of these those of an option's first words
 # What other tools call an option.
 OF_OTHERS = {"--suppressions": "--known", "--baseline": "--known", "--repeat": "--runs",
              "--threads": "--jobs"}
@@ -27,16 +28,32 @@ class Version(argparse.Action):
         parser.exit()
 
 
+class Help(argparse.Action):
+    """What --help says on one screen: of each option the first words."""
+
+    def __call__(self, parser, *_):
+        import re  # takes its time
+        print(parser.format_usage().replace("usage:", "Usage:", 1))
+        for action in parser._actions:
+            names = ", ".join(action.option_strings) + f" {action.metavar or ''}"
+            first = re.split(r" [(]|[;:.](?: |$)", action.help)[0]
+            print(f"  {names.strip():18}  {first if len(first) <= SHORT else first.partition(', ')[0]}")
+        print(f"\n{parser.prog} --help says all.")
+        parser.exit()
+
+
 class Parser(argparse.ArgumentParser):
     """The words of a command: what it is about, its options, and notes. Wrong words end it with `status`."""
 
     def __init__(self, command, about, notes, status=3, **more):
         super().__init__(prog=command, formatter_class=argparse.RawDescriptionHelpFormatter,
                          # what is short for one option today may be for another tomorrow
-                         allow_abbrev=False, **more)
+                         allow_abbrev=False, add_help=False, **more)
         self.about, self.notes, self.status = about, notes, status
         # as clap has them in the help of `shb`, and as help2man reads them
         self._positionals.title, self._optionals.title = "Arguments", "Options"
+        self.add_argument("-h", action=Help, nargs=0, help="print the options in short and exit")
+        self.add_argument("--help", action="help", help="print this text and exit")
 
     def format_help(self):
         notes = f"{self.notes.rstrip()}\n\nshb {installed()}\n" if installed() else self.notes

@@ -77,8 +77,8 @@ def parser_of_words():
                         "tabs between; * stands for any text; a line that begins with # is a comment. A line "
                         "with two fields applies to every variable. Lines that match nothing are reported")
     parser.add_argument("--fail-on-stale", action="store_true",
-                        help="if no race is unknown, such lines end with status 67. A race that is in few "
-                        "runs needs --runs")
+                        help="end with status 67 for lines that match nothing, if no race is unknown. A race "
+                        "that is in few runs needs --runs")
     parser.add_argument("--source", metavar="DIR", action="append", default=[],
                         help="look for source files below this folder too; may be given again. Those of the "
                              "debug information are found without it")
@@ -87,8 +87,8 @@ def parser_of_words():
     parser.add_argument("--window", metavar="N", type=number(1), default=MOST_EVENTS,
                         help="the most events of a page's trace (%(default)s)")
     parser.add_argument("--wait", metavar="N", type=number(0),
-                        help=f"wait up to N seconds for processes that outlive the program ({WAIT}), and for "
-                        "those that SIGINT or SIGTERM is passed on to, before they are killed. If it is "
+                        help=f"wait up to N seconds for what outlives the program ({WAIT}), and for processes "
+                        "that SIGINT or SIGTERM is passed on to, before they are killed. If it is "
                         "given, what is shown after such a signal has N seconds too")
     parser.add_argument("--log", metavar="FILE",
                         help="write to this file what otherwise goes to standard error, which then is the "
@@ -116,10 +116,10 @@ def add_runs(parser):
                         "if standard input is a file or pipe that isn't at its end). What they write is in "
                         "files first, and printed run by run")
     how_often.add_argument("--join", action="store_true",
-                           help="run nothing: PROGRAM and its words are folders of results, as of several "
-                           "machines, which become one in DIR (places.json, unknown.places, index.html)")
+                           help="make one of several folders of results, which PROGRAM and its words name, as "
+                           "of several machines, in DIR (places.json, unknown.places, index.html)")
     how_often.add_argument("--live", action="store_true",
-                           help="for a program that runs on: each place is shown while it runs, once. "
+                           help="show each place while the program runs, once. "
                            "The run is recorded in segments. If they come faster than they can be analysed, "
                            "the oldest are dropped, so memory and disk are bounded. A race between two "
                            "segments is missed (SHB_SEGMENT=N: N records in one)")

@@ -116,8 +116,8 @@ class Look:
         """A line each on what a run says nothing about."""
         yield from self.modules.lines()
         if self.options.runs == 1 and (self.has_threads or self.places.seen):
-            yield ("One interleaving of many was seen; --runs N tries others, --until-found N stops at the "
-                   "first with a race.")
+            words = ["shb-record", "--runs", "10", self.options.program, *self.options.arguments]
+            yield f"One interleaving of many was seen; ten: {shlex.join(words)}"
         yield from self.source.meaning
 
     def verified(self):

@@ -15,8 +15,7 @@ from test_open import planted
 PLACE = ("status.c:9", "status.c:9")
 UNKNOWN = "# status.c:9\tstatus.c:9\nstatus.c:work()\tstatus.c:work()\tshared\n"
 TABLES = ["index.html", "places.json", "places.sarif", "places.tsv"]
-ONE = ("shb-record: One interleaving of many was seen; --runs N tries others, --until-found N stops at the "
-       "first with a race.")
+ONE = "shb-record: One interleaving of many was seen; ten: shb-record --runs 10 "
 LIST = "made-by-shb-record.txt"
 
 
@@ -65,7 +64,8 @@ class Command(recorder.Case):
         page, = (self.folder / "status.shb").glob("run*.html")
         self.assertEqual([said.splitlines()[-5], *said.splitlines()[-2:]],
                          ["shb-record: 1 place with races; the program's own status: 0; files in "
-                                                  f"{self.folder}/status.shb", ONE, "shb-record: page: "
+                                                  f"{self.folder}/status.shb", f"{ONE}{self.folder}/status 0 race",
+                          "shb-record: page: "
                           f"{page}"])
         self.assertRegex(text_of(page), r"<title>\S+/status 0 race \(run 1, process \d+, \d{4}-\d\d-\d\d "
                                         r"\d\d:\d\d\): 1 place with races, ")
@@ -585,7 +585,7 @@ int main(int count, char **words) {
                                                   "atomics or futexes order may be a false race. Build it "
                                                   "with the flag.",
                                                   "shb-record: Without debug information (-g) locations are "
-                                                  "addresses: libnameless.so.", ONE])
+                                                  "addresses: libnameless.so.", f"{ONE}./app"])
         status, _, said = self.record("--runs", "2", "./app")
         self.assertNotIn(ONE, said)
         self.assertRegex(said, "2 runs gave [12] different interleavings?")
@@ -597,8 +597,7 @@ int main(int count, char **words) {
         page, = (self.folder / "app.shb").glob("run*.html")
         for line in ("Code without -fsanitize=thread isn&#x27;t seen: libbare.so. Its POSIX and C++ locks "
                      "are; ", "Without debug information (-g) locations are addresses: libnameless.so.",
-                     "One interleaving of many was seen; --runs N tries others, --until-found N stops at the "
-                     "first with a race."):
+                     "One interleaving of many was seen; ten: shb-record --runs 10 ./app"):
             self.assertIn(line, text_of(page))
 
     def test_debug_information_that_is_not_read_is_said_once(self):
@@ -1160,10 +1159,12 @@ int main(int count, char **words) {
         self.assertIn("there is no analyser at /nowhere/shb; in a checkout `make build` makes it", said)
 
     def test_help(self):
-        for word in ("-h", "--help"):
+        for word, lines in ("-h", range(15, 31)), ("--help", range(80, 200)):
             status, out, said = self.record(word)
             self.assertEqual((status, said), (0, ""))
             self.assertTrue(out.startswith("Usage: shb-record "))
+            self.assertLessEqual(max(map(len, out.splitlines())), 80 if word == "-h" else 100)
+            self.assertIn(out.count("\n"), lines)
 
     def test_installed(self):
         """All but shb in PREFIX/lib/shb, and links to the commands in PREFIX/bin."""
