@@ -87,8 +87,8 @@ def parser_of_words():
     parser.add_argument("--window", metavar="N", type=number(1), default=MOST_EVENTS,
                         help="the most events of a page's trace (%(default)s)")
     parser.add_argument("--wait", metavar="N", type=number(0),
-                        help=f"wait up to N seconds for what outlives the program ({WAIT}), and for processes "
-                        "that SIGINT or SIGTERM is passed on to, before they are killed. If it is "
+                        help=f"wait up to N seconds for what outlives the program ({WAIT}), and for "
+                        "processes that SIGINT or SIGTERM is passed on to, before they are killed. If it is "
                         "given, what is shown after such a signal has N seconds too")
     parser.add_argument("--log", metavar="FILE",
                         help="write to this file what otherwise goes to standard error, which then is the "
@@ -116,8 +116,8 @@ def add_runs(parser):
                         "if standard input is a file or pipe that isn't at its end). What they write is in "
                         "files first, and printed run by run")
     how_often.add_argument("--join", action="store_true",
-                           help="make one of several folders of results, which PROGRAM and its words name, as "
-                           "of several machines, in DIR (places.json, unknown.places, index.html)")
+                           help="make one of several folders of results, which PROGRAM and its words name, "
+                           "as of several machines, in DIR (places.json, unknown.places, index.html)")
     how_often.add_argument("--live", action="store_true",
                            help="show each place while the program runs, once. "
                            "The run is recorded in segments. If they come faster than they can be analysed, "

@@ -64,9 +64,8 @@ class Command(recorder.Case):
         page, = (self.folder / "status.shb").glob("run*.html")
         self.assertEqual([said.splitlines()[-5], *said.splitlines()[-2:]],
                          ["shb-record: 1 place with races; the program's own status: 0; files in "
-                                                  f"{self.folder}/status.shb", f"{ONE}{self.folder}/status 0 race",
-                          "shb-record: page: "
-                          f"{page}"])
+                          f"{self.folder}/status.shb", f"{ONE}{self.folder}/status 0 race",
+                          f"shb-record: page: {page}"])
         self.assertRegex(text_of(page), r"<title>\S+/status 0 race \(run 1, process \d+, \d{4}-\d\d-\d\d "
                                         r"\d\d:\d\d\): 1 place with races, ")
         self.assertEqual(self.names(),
