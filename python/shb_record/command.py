@@ -12,9 +12,8 @@ import signal
 from shb_common import known
 from shb_common.children import adopt_orphans
 from shb_common.commands import Parser, number
-from shb_common.files import put
 from shb_common.limits import MOST_EVENTS
-from shb_common.standard import faults_of, open_standard_files, words_of
+from shb_common.standard import open_standard_files, words_of
 from shb_common.stops import Stops
 from shb_common.words import Refused, counted, printable
 from shb_record.at_once import jobs_of, outcomes
@@ -227,7 +226,8 @@ def record(options):
         rows = look.places.rows()
         is_recorded = bool(look.runs) or results.has_more()
         if is_recorded:
-            write_tables(look, rows)
+            for fault in results.write(tables_of(look, rows, status_of(look, rows))):
+                look.fail(fault)
         results.close(is_recorded)
     status = status_of(look, rows)
     if is_recorded:
@@ -235,17 +235,6 @@ def record(options):
     else:
         say(f"nothing was recorded; the program's own status: {look.own}")
     return status
-
-
-def write_tables(look, rows):
-    """Writes each table whole, or not at all."""
-    results = look.results
-    for name, text in tables_of(look, rows, status_of(look, rows)).items():
-        try:
-            with faults_of(results.tables[name]):
-                put(results.tables[name], text, results.work)
-        except OSError as fault:
-            look.fail(fault)
 
 
 def run_all(look):

@@ -19,17 +19,17 @@ def join(options):
     if os.path.realpath(options.folder) in map(os.path.realpath, folders):
         raise Refused("--join: -o names one of the folders, whose pages would be replaced")
     documents = [result.read(folder, lambda entry: entry["processes"]) for folder in folders]
-    results, lines = Results(options.folder, "--join"), {}
-    joined = joined_of(folders, documents, results.folder)
+    lines = {}
     for folder in folders:
         with open(f"{folder}/unknown.places", "rb") as file:
             lines.update(dict.fromkeys(file.read().splitlines(keepends=True)))
-    texts = {"places.json": result.in_bytes(joined), "unknown.places": b"".join(lines),
-             "index.html": index(f"{counted(len(folders), 'recording')} joined", joined)}
-    for name, text in texts.items():
-        with open(results.tables[name], "wb") as file:
-            file.write(text)
+    results = Results(options.folder, "--join")
+    joined = joined_of(folders, documents, results.folder)
+    faults = results.write({"places.json": result.in_bytes(joined), "unknown.places": b"".join(lines),
+                            "index.html": index(f"{counted(len(folders), 'recording')} joined", joined)})
     results.close(True)
+    if faults:
+        raise faults[0]
     summary = joined["summary"]
     say(f"{counted(summary['unknown'], 'unknown place')} with races in {counted(len(folders), 'recording')} "
         f"of {counted(summary['runs'], 'run')}; the overview: {results.folder}/index.html")

@@ -8,6 +8,7 @@ import re
 import shutil
 import time
 
+from shb_common.files import put
 from shb_common.standard import faults_of
 from shb_common.words import Refused
 from shb_record.parts import files_in, now, say
@@ -84,6 +85,17 @@ class Results:
     def has_more(self):
         """Whether something was made besides the tables and the folder of work."""
         return self.names != self.first
+
+    def write(self, texts):
+        """Puts tables in place, each whole or not at all. Returns the faults of those that can't be."""
+        faults = []
+        for name, text in texts.items():
+            try:
+                with faults_of(self.tables[name]):
+                    put(self.tables[name], text, self.work)
+            except OSError as fault:
+                faults.append(fault)
+        return faults
 
     def close(self, is_recorded):
         """Deletes the folder of work, and all of the results if nothing was recorded, and lets other calls

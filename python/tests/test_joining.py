@@ -71,6 +71,15 @@ class Joining(farm.side_by_side.Case):
         self.assertEqual((status, said.count("a part of it is missing")), (125, 1), said)
         self.assertEqual(self.join("one")[0], 125)
 
+    def test_earlier_results_stay_if_a_folder_lacks_a_file(self):
+        self.put("one", document([], [], status=0), b"")
+        self.assertEqual(self.join("-o", "all", "one")[0], 0)
+        before = sorted(self.folder.glob("all/*"))
+        (self.folder / "one/unknown.places").unlink()
+        status, said = self.join("-o", "all", "one")
+        self.assertEqual((status, "one/unknown.places: No such file" in said), (125, True), said)
+        self.assertEqual(sorted(self.folder.glob("all/*")), before)
+
     def test_a_folder_is_not_replaced_by_what_is_made_of_it(self):
         """Nor is a farm's result one of a recording."""
         self.put("one", document([], []), b"")
