@@ -4,6 +4,8 @@ import contextlib
 import os
 import stat
 
+from shb_common.standard import faults_of
+
 
 def open_regular(path):
     """A regular file, open for reading; OSError for anything else, which may have no end and isn't waited
@@ -46,7 +48,7 @@ def remove(path):
 
 def put(path, text, room=None):
     """Puts a file in place whole; `room` is a folder of the same file system (the file's own by default)."""
-    with temporary_file(room or os.path.dirname(os.path.abspath(path))) as (file, new):
+    with faults_of(path), temporary_file(room or os.path.dirname(os.path.abspath(path))) as (file, new):
         file.write(text)
         file.flush()
         put_file(new, path)

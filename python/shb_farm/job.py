@@ -71,8 +71,11 @@ def main(words):
         except (OSError, running.NotHere) as fault:
             kind = "failed"
             tell(f"shb-farm: {name}: {words_of(fault)}")
-        with open(pathlib.Path(work.room) / passes.DONE, "ab") as done:
-            done.write(b".")    # counted by who watches the pass
+        try:
+            with open(pathlib.Path(work.room) / passes.DONE, "ab") as done:
+                done.write(b".")    # counted by who watches the pass
+        except OSError as fault:
+            tell(f"shb-farm: {words_of(fault)}")
         if kind == "failed":
             status = 1
     return status

@@ -91,8 +91,7 @@ class Results:
         faults = []
         for name, text in texts.items():
             try:
-                with faults_of(self.tables[name]):
-                    put(self.tables[name], text, self.work)
+                put(self.tables[name], text, self.work)
             except OSError as fault:
                 faults.append(fault)
         return faults

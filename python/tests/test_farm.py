@@ -169,6 +169,21 @@ class Tables(farm.Case):
         self.assertEqual(run('exec "$@" <&- >&- 2>&-').returncode, 1)
         self.assertEqual(self.ends()["race.std"][0], "report")
 
+    def test_a_full_disk(self):
+        """Its jobs say so too, each fault in a line."""
+        if os.getuid() or subprocess.run(["unshare", "--mount", "true"], stderr=subprocess.DEVNULL).returncode:
+            self.skipTest("only who may mount folders can fill a disk")
+        for number in range(12):
+            self.trace(f"{number}.std", RACE)
+        self.out.mkdir()
+        for room in 48, 64:
+            ran = subprocess.run(["unshare", "--mount", "sh", "-c", f"mount -t tmpfs -o size={room}k none "
+                                  f'{self.out}; exec "$@"', "sh", *self.words("--jobs", "2")],
+                                 env=self.environment(), capture_output=True, timeout=farm.SECONDS)
+            said = ran.stderr.decode()
+            self.assertEqual((ran.returncode, "Traceback" in said), (4, False), said)
+            self.assertIn(".outcome: No space left on device\n", said)
+
     def test_a_fault_of_the_farm_itself_is_no_unknown_place(self):
         script = ("import sys\nfrom shb_farm import command\ncommand.run = "
                   "None\nsys.exit(command.main(sys.argv[1:]))")

@@ -152,7 +152,7 @@ class Results(recorder.Case):
         self.record("-o", "out", self.build(source))
         said = "app.c:5 and app.c:6 write without a lock"
         out = self.folder / "out"
-        self.assertIn(f"all (2 variables)</a></code></td><td>{said}<br>", (out / "index.html").read_text())
+        self.assertIn(f">all (2 variables)</a></code></td><td>{said}<br>", (out / "index.html").read_text())
         [log] = json.loads((out / "places.sarif").read_text())["runs"]
         self.assertEqual([result["message"]["text"].partition(". ")[2] for result in log["results"]],
                          [f"all: {said}. Remedy: hold one lock at app.c:5 and app.c:6."] * 2)
