@@ -171,7 +171,8 @@ class Tables(farm.Case):
 
     def test_a_full_disk(self):
         """Its jobs say so too, each fault in a line."""
-        if os.getuid() or subprocess.run(["unshare", "--mount", "true"], stderr=subprocess.DEVNULL).returncode:
+        if (os.getuid() or subprocess.run(["unshare", "--mount", "true"],
+                                          stderr=subprocess.DEVNULL).returncode):
             self.skipTest("only who may mount folders can fill a disk")
         for number in range(12):
             self.trace(f"{number}.std", RACE)
