@@ -221,12 +221,16 @@ def node(cluster, farm, out):
 
 
 def controller(cluster, farm, out):
-    """The controller is killed at a quarter, and started again after five seconds."""
+    """The controller is killed at a quarter, and started again after five seconds. Nodes that it drains are
+    resumed: they may run already what they are given."""
     started = farm.slurm(out)
     farm.wait_for(out, farm.count // 4, started)
     cluster.kill("slurmctld")
     time.sleep(5)
     cluster.start("slurmctld")
+    while started[1].poll() is None:
+        cluster.up()
+        time.sleep(1)
     return farm.took("slurm, slurmctld killed and started again", started)
 
 
