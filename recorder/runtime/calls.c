@@ -29,13 +29,13 @@ static _Atomic uint32_t kept_count = 1, buckets[BUCKETS];
 
 context *context_at(const thread *t, uint32_t depth) { return depth ? t->frames[depth - 1].in : kept; }
 
-static uint64_t kind_under_locks(const thread *t, context *c);
+static uint64_t kind_under(uint32_t set, uint64_t kind);
 
 void set_depth(thread *t, uint32_t depth) {
     t->depth = depth;
     context *c = context_at(t, recordable_depth(t));
     t->in = c;
-    t->kind = t->locks && c->kind != NO_KIND ? kind_under_locks(t, c) : c->kind;
+    t->kind = t->set && c->kind != NO_KIND ? kind_under(t->set, c->kind) : c->kind;
 }
 
 int is_kept_context(const context *c) { return c >= kept && c < kept + MOST_KEPT; }
@@ -109,21 +109,45 @@ static uint64_t kind_of(const context *c) {
     return kind ? (uint64_t)(kind - kept) << KIND_AT : NO_KIND;
 }
 
-/* So no use with locks stands for one without, and seldom for one with others: they are as a call further in.
-   Where there is no room the kind is that without locks. */
-static uint64_t kind_under_locks(const thread *t, context *c) {
-    const uint32_t set = (t->sum_of_locks * 0x9E3779B97F4A7C15u >> 32) % LOCK_SETS;
-    const context call = {.caller = set + 1};
-    const context *kind = c->under[set] ? 0 : kind_with(&kept[c->kind >> KIND_AT], &call);
-    if (kind) c->under[set] = kind - kept;
-    return c->under[set] ? (uint64_t)c->under[set] << KIND_AT : c->kind;
+/* A use under locks stands for those alone that are under the same ones: they are as a call further in. But
+   sets of locks that come when so many have numbers share as many more. */
+enum { SETS = 64 };
+static uint32_t number_of_set(uint64_t sum) {
+    static _Atomic uint64_t known[SETS];
+    for (uint32_t k = 0; k < SETS; k++) {
+        uint32_t at = (sum + k) % SETS;
+        uint64_t there = atomic_load_explicit(&known[at], memory_order_relaxed);
+        if (!there && atomic_compare_exchange_strong(&known[at], &there, sum)) there = sum;
+        if (there == sum) return at + 1;
+    }
+    return SETS + 1 + sum % SETS;
+}
+
+void set_locks(thread *t, uint64_t sum) {
+    t->sum_of_locks = sum;
+    t->set = sum ? number_of_set(sum) : 0;
+    set_depth(t, t->depth);
+}
+
+/* Where there is no room the kind is that without locks. */
+static uint64_t kind_under(uint32_t set, uint64_t kind) {
+    enum { LOG_KNOWN = 12, KEY_AT = 64 - KIND_AT };
+    static _Atomic uint64_t known[1 << LOG_KNOWN];           /* what was asked for last: a key, and the kind */
+    const uint64_t key = kind >> KIND_AT << 8 | set;
+    _Atomic uint64_t *last = &known[key * 0x9E3779B97F4A7C15u >> (64 - LOG_KNOWN)];
+    uint64_t there = atomic_load_explicit(last, memory_order_relaxed);
+    if (there >> KEY_AT == key) return there << KIND_AT;
+    const context call = {.caller = set}, *under = kind_with(&kept[kind >> KIND_AT], &call);
+    if (!under) return kind;
+    atomic_store_explicit(last, key << KEY_AT | (under - kept), memory_order_relaxed);
+    return (uint64_t)(under - kept) << KIND_AT;
 }
 
 /* The function in the frame is called as `new` says, in those of `outer`. Where there is no room for a
    context the frame has its own, a new one at each call. */
 void enter_context(frame *f, context *outer, context new) {
     f->own = (context){outer, new.caller, new.function, new.way, new.extent, NO_KIND, NOT_RECORDED,
-                       outer->depth + 1, 0, 0, 0, {0}};
+                       outer->depth + 1, 0, 0, 0};
     uint32_t k = is_kept_context(outer) ? find_context(&f->own) : 0;
     if (!k) f->own.kind = kind_of(&f->own);
     if (!k && is_kept_context(outer)) k = add_context(&f->own);

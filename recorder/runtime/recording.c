@@ -291,11 +291,11 @@ static int is_held_back(thread *t, enum operation operation, struct record r, ui
 static void count_locks(thread *t, const struct record *r, enum operation operation) {
     int takes = operation == OP_LOCK || operation == OP_READ_LOCK || operation == OP_WRITE_LOCK;
     if (!takes && operation != OP_UNLOCK && operation != OP_RW_UNLOCK) return;
-    uint64_t lock = r->where & LOW_48_BITS;
-    t->sum_of_locks += takes ? lock : -lock;
+    uint64_t lock = (r->where & LOW_48_BITS) * 0x9E3779B97F4A7C15u;
+    lock = (lock ^ lock >> 32) * 0xD6E8FEB86659FD93u;        /* so sums of other ones differ */
     if (takes) t->locks++;
-    else if (t->locks && --t->locks == 0) t->sum_of_locks = 0;
-    set_depth(t, t->depth);            /* so its kind is that under these locks */
+    else if (t->locks) t->locks--;
+    set_locks(t, t->locks ? t->sum_of_locks + (takes ? lock : -lock) : 0);
 }
 
 static void put_now(thread *t, enum operation operation, pointer address, uint64_t size, uint64_t caller) {

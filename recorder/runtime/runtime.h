@@ -28,8 +28,6 @@ void __libc_free(void *);
 /* for the compiler; the processor stores in this order, and loads too */
 #define KEEP_ORDER() __asm__ volatile("" ::: "memory")
 
-enum { LOCK_SETS = 3 };                /* sets of locks fall into so many, besides that of none */
-
 /* The functions that a thread is in are a node of a tree (calls.c): the innermost, and the others' node. */
 typedef struct context {
     struct context *outer;
@@ -38,7 +36,6 @@ typedef struct context {
     uint64_t kind;                     /* as cells.h has it in a use */
     uint32_t number, depth;            /* in the record; how many functions it has */
     uint32_t inner, after, next;       /* entered from here last; from the same one after; in its bucket */
-    uint32_t under[LOCK_SETS];         /* its kinds there, once they are known */
 } context;
 #define NOT_RECORDED (~0u)             /* in the place of a number */
 
@@ -80,7 +77,7 @@ typedef struct thread {
     volatile int place;                /* among the waiters */
     int quantum;                       /* hooks until it gives the turn to a waiter */
     int spins;                         /* how often in a row its last hook left the value as it was */
-    uint32_t locks;                    /* that it took and has yet to release; a sum of these */
+    uint32_t locks, set;               /* that it took and has yet to release; the number of their set, or 0 */
     uint64_t sum_of_locks;
     /* its last ones in the record */
     struct read { struct record r; uint64_t changes; const context *context; } recent[RECENT_READS];
@@ -201,6 +198,7 @@ extern int records_calls;              /* 0 where the user asks for none */
 uint64_t way_to(const thread *t, uint32_t depth, uint64_t caller);
 context *context_at(const thread *t, uint32_t depth);        /* of so many of the functions that it is in */
 void set_depth(thread *t, uint32_t depth);
+void set_locks(thread *t, uint64_t sum);                     /* it holds these, by a sum; or none, by 0 */
 void enter_context(frame *f, context *outer, context new);
 void forget_contexts(void);            /* the record is another one */
 void forget_told(thread *t);           /* the same of this thread */

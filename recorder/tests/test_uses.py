@@ -1,5 +1,7 @@
 """The table of uses, which facts of locks count from."""
 
+import re
+
 import recorder
 from shb_common import uses as files
 from test_record import BLOCK, HEADER, LATE_ENTRIES, LOCK, RANGE, entry, late
@@ -39,6 +41,18 @@ class Uses(recorder.Case):
         sums = [tuple(its[at:at + 3]) for its in fields for at in range(5, len(its), 3)]
         self.assertEqual(sorted((kind, count, name if kind != "held" else "") for kind, count, name in sums),
                          [("by", "6", "T1.work"), ("held", "6", ""), ("under", "6", "m")])
+
+    def test_each_set_of_locks_has_a_use(self):
+        """Of uses that their thread repeats one is recorded for each of the 48 sets that are held at them."""
+        program, record = self.folder / "sets", self.folder / "sets.rec"
+        recorder.build(recorder.PROGRAMS / "many_sets.c", "-O1", program)
+        recorder.must(recorder.call(program, env=recorder.settings(record)))
+        trace, held, sets = recorder.must(recorder.convert(record)).stdout.decode(), set(), set()
+        for operation, name in re.findall(r"(?m)^T1\.work\|(acq|rel|w)\((.*?)\)\|", trace):
+            if operation == "w" and name == "shared":
+                sets.add(frozenset(held))
+            held ^= {name} if operation != "w" else set()
+        self.assertEqual(len(sets), 48)
 
     def test_sums_of_each_line_and_way(self):
         """By two threads, under a lock, under it and one for reading, and under none; a free is apart, and so
