@@ -8,12 +8,14 @@
 #include <sys/socket.h>
 #include <sys/stat.h>
 #include <sys/uio.h>
+#include <sys/un.h>
 
 /* ---- a write, close or addition to an epoll comes before what reads it, gets its number or is woken ---- */
 enum { DESCRIPTORS = 1 << 16 };
 static int pair_of[DESCRIPTORS];       /* of all that leads to the same data the number of one; plus one */
 static uint64_t key_of[DESCRIPTORS];   /* equal at both ends of a connection or of a named FIFO; or 0 */
 static int keyed;                      /* from this number on none has a key */
+enum { IS_KNOWN = 1, HAS_DATAGRAMS };
 static char is_known[DESCRIPTORS];
 static char connects[DESCRIPTORS];     /* where a connection may come about that isn't known yet */
 
@@ -32,7 +34,7 @@ static void know_by_key(int f, uint64_t key) {
     thread *t = self && !self->inside ? self : 0;
     if (t) begin_inside(t);
     while (atomic_exchange(&busy, 1)) syscall(SYS_sched_yield);
-    is_known[f] = 1;
+    is_known[f] = IS_KNOWN;
     connects[f] = 0;
     if (keyed <= f) keyed = f + 1;
     for (int other = 0; other < keyed; other++)
@@ -93,13 +95,48 @@ static void know_accepted(int f) {
 /* A FIFO may be opened by its name at both ends, and a connection may have come about by now. */
 static void know_file(int f) {
     struct stat status;
-    int saved = errno;
-    is_known[f] = 1;
+    int saved = errno, type = 0;
+    socklen_t size = sizeof type;
+    is_known[f] = IS_KNOWN;
     if (!pair_of[f] && !syscall(SYS_fstat, f, &status)) {
         if (S_ISFIFO(status.st_mode)) know_by_key(f, (status.st_dev * 31 + status.st_ino) | 1ull << 63);
-        if (S_ISSOCK(status.st_mode)) know_connection(f);
+        if (S_ISSOCK(status.st_mode)) getsockopt(f, SOL_SOCKET, SO_TYPE, &type, &size);
+        if (type == SOCK_DGRAM) is_known[f] = HAS_DATAGRAMS, connects[f] = 0;
+        else if (type) know_connection(f);
     }
     errno = saved;
+}
+
+/* ---- datagrams: who gets one gets what all gave that were sent to its port, or name, before ---- */
+static void *sent_to(const struct sockaddr_storage *a, socklen_t size) {
+    const struct sockaddr_un *local = (const void *)a;
+    if (a->ss_family == AF_INET || a->ss_family == AF_INET6)
+        return number_of(DESCRIPTORS + ((const struct sockaddr_in *)a)->sin_port);
+    if (*local->sun_path) size = strnlen((char *)local, sizeof *local);     /* else it may have zeros in it */
+    return number_of(2 * DESCRIPTORS + mixed(1, a, least(size, sizeof *a)) % (1 << 24));
+}
+
+static int has_datagrams(int f) { return is_small(f) && others && (data_of(f), is_known[f] == HAS_DATAGRAMS); }
+
+/* By the address that it was sent to; without one, the peer's. */
+static void *data_sent(int f, const void *to, socklen_t size) {
+    struct sockaddr_storage a = {0};
+    int saved = errno;
+    void *data = data_of(f);
+    if (!to) size = sizeof a;
+    size = least(size, sizeof a);
+    if (has_datagrams(f) && (to ? copy_in(&a, to, size) : !getpeername(f, (void *)&a, &size)))
+        data = sent_to(&a, size);
+    errno = saved;
+    return data;
+}
+
+static void *data_got(int f) {
+    struct sockaddr_storage a = {0};
+    socklen_t size = sizeof a;
+    int saved = errno, is_datagram = has_datagrams(f) && !getsockname(f, (void *)&a, &size);
+    errno = saved;
+    return is_datagram ? sent_to(&a, size) : data_of(f);
 }
 
 static void note_descriptor(enum operation operation, void *what, uint64_t caller) {
@@ -111,10 +148,11 @@ static void let_others_run_at(int f) {
     if (others && recording && !(syscall(SYS_fcntl, f, F_GETFL) & O_NONBLOCK)) let_others_run();
 }
 
-static void note_sent(int f, uint64_t caller) {
-    note_descriptor(OP_POST, data_of(f), caller);
+static void note_sent_to(int f, const void *to, socklen_t size, uint64_t caller) {
+    note_descriptor(OP_POST, data_sent(f, to, size), caller);
     let_others_run_at(f);
 }
+static void note_sent(int f, uint64_t caller) { note_sent_to(f, 0, 0, caller); }
 
 void note_transfer(enum operation operation, int f, uint64_t caller) {
     void *data = data_of(f);
@@ -160,25 +198,32 @@ static void note_message(uint64_t seen, enum operation operation, const struct m
     if (seen && copy_in(&m, given, sizeof m)) note_pieces(seen, operation, m.msg_iov, m.msg_iovlen, bytes);
 }
 
+static void note_sent_message(uint64_t seen, int f, const struct msghdr *given, uint64_t caller) {
+    struct msghdr m = {0};
+    note_message(seen, OP_READ, given, MOST_BYTES);
+    if (has_datagrams(f)) copy_in(&m, given, sizeof m);
+    note_sent_to(f, m.msg_name, m.msg_namelen, caller);
+}
+
 /* What is sent is read before the post; what is received is written after the wait. A result is no more than
    an int has. */
 #define TRANSFERS(name) \
     WRAPS(ssize_t, name, (int f, void *p, word n, word third, word fourth, word fifth, word sixth))
 #define TRANSFERRED(name) (int)REAL_AS(name)(f, p, n, third, fourth, fifth, sixth)
-#define SENDS(name, accesses) \
+#define SENDS_BY(name, sends) \
     TRANSFERS(name) { \
         uint64_t seen __attribute__((unused)) = begin_call(CALLER); \
-        accesses; \
-        note_sent(f, CALLER); \
+        sends; \
         return TRANSFERRED(name); \
     }
+#define SENDS(name, accesses) SENDS_BY(name, accesses; note_sent(f, CALLER))
 #define RECEIVES(name, accesses) \
     TRANSFERS(name) { \
         let_others_run_at(f); \
         ssize_t r = TRANSFERRED(name); \
         if (r < 0) let_others_run();   /* one of them may have to send it first */ \
         if (r < 0) return r; \
-        note_descriptor(OP_WAIT, data_of(f), CALLER); \
+        note_descriptor(OP_WAIT, data_got(f), CALLER); \
         uint64_t seen = begin_call(CALLER); \
         accesses; \
         return r; \
@@ -191,11 +236,11 @@ static void note_message(uint64_t seen, enum operation operation, const struct m
 SENDS(write, SENDS_BYTES)
 SENDS(writev, SENDS_PIECES)
 SENDS(send, SENDS_BYTES)
-SENDS(sendmsg, note_message(seen, OP_READ, p, MOST_BYTES))
-SENDS(sendto, SENDS_BYTES)
-SENDS(sendmmsg, struct mmsghdr *m = p;
-      for (unsigned i = 0; i < least((unsigned)n, IOV_MAX); i++)
-          note_message(seen, OP_READ, &m[i].msg_hdr, MOST_BYTES))
+SENDS_BY(sendmsg, note_sent_message(seen, f, p, CALLER))
+SENDS_BY(sendto, SENDS_BYTES; note_sent_to(f, (void *)fourth, fifth, CALLER))
+SENDS_BY(sendmmsg, struct mmsghdr *m = p;
+         for (unsigned i = 0; i < least((unsigned)n, IOV_MAX); i++)
+             note_sent_message(seen, f, &m[i].msg_hdr, CALLER))
 SENDS(eventfd_write, ) SENDS(shutdown, ) SENDS(timerfd_settime, ) SENDS(sendfile, ) SENDS(sendfile64, )
 PUBLIC int epoll_ctl(int f, int o, int g, struct epoll_event *e) {
     note_descriptor(OP_POST, data_of(f), CALLER);
@@ -256,7 +301,7 @@ PUBLIC int connect(int f, const struct sockaddr *a, socklen_t n) {
     if (is_small(f)) connects[f] = 1;
     int r = REAL(connect)(f, a, n);
     if (is_small(f)) is_known[f] = 0;  /* it may still come about */
-    if (!r) know_connection(f);
+    if (!r && is_small(f)) know_file(f);
     return r;
 }
 
