@@ -130,7 +130,7 @@ static int add_loaded(struct dl_phdr_info *info, size_t size, void *loaded_) {
 }
 
 static void *found_in(const char *module, const char *name) {
-    void *handle = dlopen(module, RTLD_LAZY | RTLD_NOLOAD), *p = handle ? dlsym(handle, name) : 0;
+    void *handle = REAL(dlopen)(module, RTLD_LAZY | RTLD_NOLOAD), *p = handle ? dlsym(handle, name) : 0;
     if (handle) REAL(dlclose)(handle);
     return module_with(p) == module_with((void *)found_in) ? 0 : p;
 }
@@ -175,6 +175,17 @@ PUBLIC void __tsan_init(void) {
     seen_modules = how_many;
 }
 
+/* ---- the loader runs constructors and destructors under a lock of its own, which nobody sees; so under one of
+   ours, too. A name without a folder it looks up by the call's own module: there its function is jumped to ---- */
+static pthread_mutex_t loading = PTHREAD_RECURSIVE_MUTEX_INITIALIZER_NP;
+PUBLIC __attribute__((optimize("optimize-sibling-calls"))) void *dlopen(const char *path, int flags) {
+    if (!others || !path || !strchr(path, '/') || strchr(path, '$')) return REAL(dlopen)(path, flags);
+    pthread_mutex_lock(&loading);
+    void *handle = REAL(dlopen)(path, flags);
+    pthread_mutex_unlock(&loading);
+    return handle;
+}
+
 /* ---- modules that go: none comes to their addresses, by which the record names code and variables ---- */
 enum { MOST_GONE = 200 };              /* then others may: a table of modules has an end */
 static int begins_at(struct dl_phdr_info *info, size_t size, void *low) {
@@ -193,7 +204,10 @@ PUBLIC int dlclose(void *handle) {
     if (!recording) return REAL(dlclose)(handle);
     loaded before = {.count = 0};
     dl_iterate_phdr(add_loaded, &before);
+    int locks = others != 0;
+    if (locks) pthread_mutex_lock(&loading);
     int error = REAL(dlclose)(handle), saved = errno;
+    if (locks) pthread_mutex_unlock(&loading);
     for (int i = 0; i < before.count; i++)
         if (!dl_iterate_phdr(begins_at, &before.at[i].bounds.low)) keep_addresses(before.at[i].bounds);
     errno = saved;

@@ -114,6 +114,37 @@ int main(void) {
 }
 """
 
+# Its constructor and destructor use what all threads share, one after the other by the loader's own lock.
+PLUGIN = """extern int loads;
+static int value;
+__attribute__((constructor)) static void begin(void) { value = ++loads; }
+__attribute__((destructor)) static void end(void) { value = --loads; }
+int get(void) { return value; }
+"""
+LOADS = """#include <dlfcn.h>
+#include <pthread.h>
+#include <stdlib.h>
+int loads;
+static void *work(void *path) {
+    for (int k = 0; k < 10; k++) {
+        void *plugin = dlopen(path, RTLD_NOW);
+        if (!plugin) exit(2);
+        ((int (*)(void))dlsym(plugin, "get"))();
+        dlclose(plugin);
+    }
+    return 0;
+}
+int main(void) {
+    pthread_t t[3];
+    if (!dlopen("one.so", RTLD_NOW)) exit(3);                /* by the program's own path of libraries */
+    for (int k = 0; k < 3; k++) pthread_create(&t[k], 0, work, k % 2 ? "./one.so" : "./two.so");
+    for (int k = 0; k < 3; k++) pthread_join(t[k], 0);
+    return loads != 1;
+}
+"""
+# What each of Debian's allocators is linked as; Fedora's have the same names.
+ALLOCATORS = "libjemalloc.so.2", "libtcmalloc_minimal.so.4", "libmimalloc.so.2"
+
 
 def flags(package):
     """What a program is compiled with that uses a library, or None where its headers aren't installed."""
@@ -217,6 +248,42 @@ class Libraries(recorder.Case):
         ran = recorder.call(recorder.COMMAND, "--runs", runs, "./program", cwd=self.folder,
                             env={**os.environ, "SHB": str(recorder.SHB), **more})
         self.assertEqual(ran.returncode, 0, ran.stderr.decode())
+
+    def test_constructors_of_libraries_that_threads_load(self):
+        for name, text in ("plugin.c", PLUGIN), ("host.c", LOADS):
+            (self.folder / name).write_text(text)
+        for words in (*(["-shared", "-fPIC", "plugin.c", "-o", f"{name}.so"] for name in ("one", "two")),
+                      ["host.c", "-rdynamic", f"-Wl,--enable-new-dtags,-rpath,{self.folder}", "-ldl",
+                       "-pthread", "-o", "host"]):
+            recorder.must(recorder.call("gcc", "-g", "-O1", "-fsanitize=thread", *words, cwd=self.folder))
+        ran = recorder.call(recorder.COMMAND, "--runs", "4", "./host", cwd=self.folder,
+                            env={**os.environ, "SHB": str(recorder.SHB)})
+        self.assertEqual(ran.returncode, 0, ran.stderr.decode())
+
+    def allocated_by(self, library):
+        """A program that allocates in threads and forks is found to be right, linked with it and with it
+        preloaded."""
+        if b"/" not in recorder.must(recorder.call("gcc", f"-print-file-name={library}")).stdout:
+            self.skipTest(f"{library} isn't installed")
+        for name, text in ("heap.c", ALLOCATES), ("forks.c", FORKS.replace("void use(void);", "").replace(
+                "    use();\n", "")):
+            (self.folder / name).write_text(text)
+            for linked, preloaded in ([f"-Wl,--no-as-needed,-l:{library}"], ""), ([], library):
+                recorder.must(recorder.call("gcc", "-w", "-g", "-O1", "-fsanitize=thread", name, *linked,
+                                            "-pthread", "-o", "program", cwd=self.folder))
+                ran = recorder.call(recorder.COMMAND, "--runs", "12", "./program", cwd=self.folder,
+                                    env={**os.environ, "SHB": str(recorder.SHB),
+                                         **({"LD_PRELOAD": preloaded} if preloaded else {})})
+                self.assertEqual(ran.returncode, 0, f"{name} {linked} {preloaded}\n{ran.stderr.decode()}")
+
+    def test_jemalloc(self):
+        self.allocated_by(ALLOCATORS[0])
+
+    def test_tcmalloc(self):
+        self.allocated_by(ALLOCATORS[1])
+
+    def test_mimalloc(self):
+        self.allocated_by(ALLOCATORS[2])
 
     def test_an_allocator_with_the_c_librarys_names(self):
         self.right(ALLOCATOR, ALLOCATES, 2)
