@@ -132,7 +132,7 @@ void set_locks(thread *t, uint64_t sum) {
 /* Where there is no room the kind is that without locks. */
 static uint64_t kind_under(uint32_t set, uint64_t kind) {
     enum { LOG_KNOWN = 12, KEY_AT = 64 - KIND_AT };
-    static _Atomic uint64_t known[1 << LOG_KNOWN];           /* what was asked for last: a key, and the kind */
+    static _Atomic uint64_t known[1 << LOG_KNOWN];           /* what was asked for last: key and kind */
     const uint64_t key = kind >> KIND_AT << 8 | set;
     _Atomic uint64_t *last = &known[key * 0x9E3779B97F4A7C15u >> (64 - LOG_KNOWN)];
     uint64_t there = atomic_load_explicit(last, memory_order_relaxed);

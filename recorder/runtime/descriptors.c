@@ -116,7 +116,9 @@ static void *sent_to(const struct sockaddr_storage *a, socklen_t size) {
     return number_of(2 * DESCRIPTORS + mixed(1, a, least(size, sizeof *a)) % (1 << 24));
 }
 
-static int has_datagrams(int f) { return is_small(f) && others && (data_of(f), is_known[f] == HAS_DATAGRAMS); }
+static int has_datagrams(int f) {
+    return is_small(f) && others && (data_of(f), is_known[f] == HAS_DATAGRAMS);
+}
 
 /* By the address that it was sent to; without one, the peer's. */
 static void *data_sent(int f, const void *to, socklen_t size) {

@@ -214,8 +214,8 @@ AFTER(ssize_t, getdelim, (char **s, size_t *n, int c, FILE *f), (s, n, c, f), go
 AFTER(ssize_t, __getdelim, (char **s, size_t *n, int c, FILE *f), (s, n, c, f), got_line(seen, f, s, n, r))
 AFTER(ssize_t, getrandom, (void *p, size_t n, unsigned flags), (p, n, flags), if (r > 0) WRITES(p, r))
 
-/* ---- clocks: what they show decides how long threads wait, so a replay shows the same; also to libraries, as
-   the C++ library asks for its callers. Memory that isn't there is a fault outside of a hook ---- */
+/* ---- clocks: what they show decides how long threads wait, so a replay shows the same; also to libraries,
+   as the C++ library asks for its callers. Memory that isn't there is a fault outside of a hook ---- */
 enum { NANOSECONDS = 1000000000 };
 static int shown(clockid_t c, struct timespec *to, uint64_t caller) {
     int saved = errno, error;
@@ -241,7 +241,8 @@ static int shown(clockid_t c, struct timespec *to, uint64_t caller) {
 SHOWS(int, clock_gettime, (clockid_t c, struct timespec *p), c, now, error)
 SHOWS(time_t, time, (time_t *p), CLOCK_REALTIME_COARSE, now.tv_sec, now.tv_sec)
 SHOWS(int, gettimeofday, (struct timeval *p, void *zone), CLOCK_REALTIME,
-      ((struct timeval){now.tv_sec, now.tv_nsec / 1000}), (zone ? memset(zone, 0, 2 * sizeof error) : 0, error))
+      ((struct timeval){now.tv_sec, now.tv_nsec / 1000}),
+      (zone ? memset(zone, 0, sizeof(struct timezone)) : 0, error))
 AFTER(int, clock_getres, (clockid_t c, struct timespec *p), (c, p), if (!r) WRITES(p, sizeof *p))
 AFTER(clock_t, times, (struct tms *p), (p), if (r != -1) WRITES(p, sizeof *p))
 #define SHOWN(type, name, time, bytes) \

@@ -22,8 +22,8 @@
         return CALLED(name); \
     }
 #define LOCKS_IN_TIME(name, operation, quick, late) \
-    TAKES_IN_TIME(int, name, operation, CALLED(name), r == EBUSY, REAL(quick)(object), !r || r == EOWNERDEAD, \
-                  late)
+    TAKES_IN_TIME(int, name, operation, CALLED(name), r == EBUSY, REAL(quick)(object), \
+                  !r || r == EOWNERDEAD, late)
 #define LOCKS(name, operation, quick) LOCKS_IN_TIME(name, operation, quick, SLEEPING(t, CALLED(name)))
 #define TRIES_LOCK(name, operation) TRIES_BY(int, name, operation, EBUSY, !r || r == EOWNERDEAD)
 

@@ -175,8 +175,8 @@ PUBLIC void __tsan_init(void) {
     seen_modules = how_many;
 }
 
-/* ---- the loader runs constructors and destructors under a lock of its own, which nobody sees; so under one of
-   ours, too. A name without a folder it looks up by the call's own module: there its function is jumped to ---- */
+/* ---- the loader runs constructors and destructors under a lock of its own, which nobody sees; so under one
+   of ours, too. A name without a folder it looks up by who calls: its own function is jumped to there ---- */
 static pthread_mutex_t loading = PTHREAD_RECURSIVE_MUTEX_INITIALIZER_NP;
 PUBLIC __attribute__((optimize("optimize-sibling-calls"))) void *dlopen(const char *path, int flags) {
     if (!others || !path || !strchr(path, '/') || strchr(path, '$')) return REAL(dlopen)(path, flags);

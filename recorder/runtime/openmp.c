@@ -126,8 +126,8 @@ PUBLIC void *GOMP_single_copy_start(void) {
 }
 BARRIER(GOMP_single_copy_end)
 
-/* Who comes first to a single section, or gets a loop's next part: none of these waits, and a replay has it so
-   again. */
+/* Who comes first to a single section, or gets a loop's next part: none of these waits, and a replay has it
+   so again. */
 #define BY_TURN(name) \
     ORDERS(word, name) { \
         thread *t = enter(MAY_YIELD); \
@@ -142,8 +142,8 @@ PARTS(loop_nonmonotonic_dynamic) PARTS(loop_nonmonotonic_guided) PARTS(loop_nonm
 PARTS(loop_maybe_nonmonotonic_runtime)
 
 /* ---- locks ---- */
-/* The library's own for sections can't be tried; so these are in its place. A word is 0, or 1 if it is taken, or
-   2 if somebody may wait for it. */
+/* The library's own for sections can't be tried; so these are in its place. A word is 0, or 1 if it is taken,
+   or 2 if somebody may wait for it. */
 static int unnamed, atomic;
 static int try_word(int *lock) {
     int idle = 0;

@@ -18,8 +18,8 @@
     result_; \
 })
 /* It may wait; recorded after it, if it was done. The quick form is tried first, for it needs no hand-over.
-   In a replay it is busy where it was then; else the one that has it may be about to give it. Where its time ran
-   out, it is `late` there at once. */
+   In a replay it is busy where it was then; else the one that has it may be about to give it. Where its time
+   ran out, it is `late` there at once. */
 #define TAKES_BY(type, name, operation, real, busy, quick, done) \
     TAKES_IN_TIME(type, name, operation, real, busy, quick, done, SLEEPING(t, real))
 #define TAKES_IN_TIME(type, name, operation, real, busy, quick, done, late) \

@@ -7,7 +7,8 @@
 /* A deadline is two words; zeros are one that is over. */
 #define TRY(name, operation, done) TRIES_BY(bool, name, operation, 0, done)
 #define TRY_WHILE(name, operation, has_time, done) \
-    TAKES_IN_TIME(bool, name, operation, CALLED(name), !r && has_time, REAL_AS(name)(object, 0, 0, 0), done, 0)
+    TAKES_IN_TIME(bool, name, operation, CALLED(name), !r && has_time, REAL_AS(name)(object, 0, 0, 0), \
+                  done, 0)
 #define TRY_FOR(name, operation, done) TRY_WHILE(name, operation, (int)(word)second, done)
 #define TRY_UNTIL(name, operation, done) TRY_WHILE(name, operation, 1, done)
 

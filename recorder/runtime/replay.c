@@ -57,8 +57,8 @@ void open_list(void) {
 /* By a thread without the turn; it may sleep. */
 void extend_list(void) {
     uint64_t from = HEADER + atomic_load(&room) * sizeof *turns;
-    if (!turns || turns == early || count + FEW < atomic_load(&room) || from >= MOST_BYTES || atomic_exchange(&is_growing, 1))
-        return;
+    if (!turns || turns == early || count + FEW < atomic_load(&room) || from >= MOST_BYTES
+        || atomic_exchange(&is_growing, 1)) return;
     if (add_space(TURNS, from, STEP_BYTES)) atomic_fetch_add(&room, STEP_BYTES / sizeof *turns);
     atomic_store(&is_growing, 0);
 }

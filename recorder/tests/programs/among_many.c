@@ -1,5 +1,5 @@
-/* Some of many threads sleep with the turn, in a call that the recorder doesn't see, until the others are done:
-   these take the turn over from them. */
+/* Some of many threads sleep with the turn, in a call that the recorder doesn't see, until the others are
+   done: these take the turn over from them. */
 #include <pthread.h>
 #include <sys/syscall.h>
 #include <unistd.h>

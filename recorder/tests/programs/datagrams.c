@@ -1,5 +1,5 @@
-/* What is sent as a datagram comes before what receives it: by a port or a name, to a connected socket's peer, as
-   one message or several. */
+/* What is sent as a datagram comes before what receives it: by a port or a name, to a connected socket's peer,
+   as one message or several. */
 #define _GNU_SOURCE
 #include <netinet/in.h>
 #include <pthread.h>
@@ -25,7 +25,8 @@ static int socket_at(int family, void *address, socklen_t size) {
 }
 
 static void *sends(void *unused) {
-    int s = socket(AF_INET, SOCK_DGRAM, 0), t = socket(AF_INET, SOCK_DGRAM, 0), u = socket(AF_UNIX, SOCK_DGRAM, 0);
+    int s = socket(AF_INET, SOCK_DGRAM, 0), t = socket(AF_INET, SOCK_DGRAM, 0);
+    int u = socket(AF_UNIX, SOCK_DGRAM, 0);
     struct msghdr one = {.msg_name = &port, .msg_namelen = sizeof port, .msg_iov = &piece, .msg_iovlen = 1};
     struct mmsghdr some = {{.msg_iov = &piece, .msg_iovlen = 1}};
     data[0] = 1;
