@@ -9,6 +9,7 @@ pub mod Streams
 pub mod ChunkLemmas
 pub mod RowLemmas
 pub mod Raised
+pub mod RaisedCounts
 pub mod ClockSteps
 pub mod Streaming
 pub mod TraceSteps

@@ -23,6 +23,7 @@ pub use Rattle.shb_links.specs.Latest.{IsLatestBefore, OfThread, ReleasesLock}
 pub use Rattle.shb_links.specs.Sharing.{IsShared}
 pub use Rattle.shb_stamps.specs.Chunks.{AreChunks, AreInside, AreNumbers, IsInside, IsLonger, numbers_in, row_by, row_in, rows_in}
 pub use Rattle.shb_stamps.specs.Clocks.{AreClocks, Covers, HasRowAfter, IsBefore, IsNext, KeepsWrite, SweepData}
+pub use Rattle.shb_stamps.specs.Counts.{AreRaisedCounts, IsRaisedCount}
 pub use Rattle.shb_stamps.specs.Fronts.{BelowLastWrite, BelowRelease, BelowThread, IsFrontBut, Learns, by_acquire, by_join, by_read}
 pub use Rattle.shb_stamps.specs.Listed.{AreListedRows}
 pub use Rattle.shb_stamps.specs.Moved.{AreAlike, AreKept, AreMoved, HasMoved, HasMovedOn, IsMovedRow, IsMovedStamp, IsNewNumber, MovesRow}

@@ -1,6 +1,7 @@
 pub mod Accesses
 pub mod Chunks
 pub mod Clocks
+pub mod Counts
 pub mod Fronts
 pub mod Listed
 pub mod Moved

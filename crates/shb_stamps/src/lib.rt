@@ -1,7 +1,7 @@
 //! Orders of a trace: how far each thread is SHB-below the predecessor of an event.
 //!
-//! The trait [`Order`] has one call, and its contract names paths of edges alone. An order says about
-//! which events it can be asked. Two orders serve the run. [`Sweep`] goes over the trace once and can be
+//! The trait [`Order`] has a call for one thread and one for all, and their contracts name paths of edges alone. An order says
+//! about which events it can be asked. Two orders serve the run. [`Sweep`] goes over the trace once and can be
 //! asked about the next event alone, so it keeps only what later events may need. [`ListedRows`] can be
 //! asked about the events of a list, so it keeps rows for these alone, found by binary search. Orders that can be asked about each event are in
 //! `shb_orders`, for tests. [`Ordered`] is a trace with its links and an order of it, which are of one

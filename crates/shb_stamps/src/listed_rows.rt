@@ -12,7 +12,7 @@ ghost use Rattle.shb_stamps.specs.Stamps.{AreMore, IsRowFor};
 use crate::clocks::Clocks;
 use crate::order::Order;
 use crate::row_list::RowList;
-use crate::trace_clocks::{count_below, pass_up_to, row_before};
+use crate::trace_clocks::{count_below, pass_up_to, raise_counts, row_before};
 use shb_io::NoMemory;
 use shb_lines::{item_or, put};
 use shb_links::Linked;
@@ -193,5 +193,10 @@ impl<'a> Order for ListedRows<'a> {
     fn below_pred(&self, e: u32, t: u32) -> u32 {
         let at = position_of(self.events.as_slice(), e);
         count_below(&self.linked, &self.rows, self.before[at], e, t)
+    }
+
+    fn raise_below(&self, e: u32, counts: &mut Vec<u32>) -> Result<(), NoMemory> {
+        let at = position_of(self.events.as_slice(), e);
+        raise_counts(&self.linked, &self.rows, self.before[at], e, counts)
     }
 }

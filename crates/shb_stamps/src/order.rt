@@ -1,8 +1,11 @@
 //! What an order answers.
 
-ghost use Rattle.std.specs.Prelude.{◌≡◌, ℕ, ◌<◌, Bool, true, List, length};
+ghost use Rattle.std.specs.Prelude.{◌≡◌, ℕ, ◌<◌, ◌≤◌, ◌^◌, Bool, true, List, OnOk, length};
 ghost use Rattle.shb_lines.specs.declared.event.Event.{Event};
 ghost use Rattle.shb_lines.specs.events.Order.{IsBelowPredCount};
+ghost use Rattle.shb_stamps.specs.Counts.{AreRaisedCounts};
+
+use shb_io::NoMemory;
 
 /// How far each thread is SHB-below the predecessor of an event.
 ///
@@ -27,4 +30,23 @@ pub trait Order {
         requires in_range { e < length (trace self.now) }
         requires asked { asks self.now e ≡ true }
         ensures { IsBelowPredCount (trace self.now) t e result };
+
+    /// Raises a count for each of the first threads to what [`below_pred`](Order::below_pred) says of it at event `e`, where
+    /// that is more.
+    ///
+    /// # Errors
+    ///
+    /// `NoMemory` where memory is refused; nothing is known of the counts then.
+    fn raise_below(&self, e: u32, counts: &mut Vec<u32>) -> Result<(), NoMemory>
+        requires in_range { e < length (trace self.now) }
+        requires asked { asks self.now e ≡ true }
+        requires few { length counts.old.items ≤ 2 ^ 32 }
+        ensures { OnOk result (AreRaisedCounts (trace self.now) e counts.old.items counts.new.items) }
+    {
+        for t in 0..counts.len() {
+            let below = self.below_pred(e, t as u32);
+            counts[t] = counts[t].max(below);
+        }
+        Ok(())
+    }
 }

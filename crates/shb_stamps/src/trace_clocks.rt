@@ -7,12 +7,13 @@ ghost use Rattle.shb_lines.specs.events.Events.{op_at, thread_at};
 ghost use Rattle.shb_lines.specs.events.Order.{BelowPred, IsBelowPredCount};
 ghost use Rattle.shb_links.specs.Sharing.{IsShared};
 ghost use Rattle.shb_stamps.specs.Clocks.{IsBefore};
+ghost use Rattle.shb_stamps.specs.Counts.{AreRaisedCounts};
 ghost use Rattle.shb_stamps.specs.Stamps.{IsRowFor};
 
 use crate::clocks::Clocks;
 use crate::row_list::RowList;
 use shb_io::NoMemory;
-use shb_lines::Op;
+use shb_lines::{Op, item_or};
 use shb_links::Linked;
 use std::alloc::Global;
 
@@ -152,4 +153,29 @@ pub fn count_below(linked: &Linked<'_>, rows: &RowList, row: u32, e: u32, t: u32
         return linked.links.local(e) - 1;
     }
     rows.entry_at(row, t)
+}
+
+/// Raises a count for each of the first threads to how many of its events are SHB-below the predecessor of e, where the
+/// row of this number is what the thread of e knows before it.
+pub fn raise_counts(
+    linked: &Linked<'_>,
+    rows: &RowList,
+    row: u32,
+    e: u32,
+    counts: &mut Vec<u32>,
+) -> Result<(), NoMemory>
+    requires in_range { e < length linked.now.events.now }
+    requires row { (u : ℕ) → thread_at linked.now.events.now e ≡ Some u
+        → IsRowFor linked.now.events.now rows.now u (λ k. BelowPred linked.now.events.now k e) row }
+    ensures { OnOk result (AreRaisedCounts linked.now.events.now e counts.old.items counts.new.items) }
+{
+    let size = counts.len();
+    let own = linked.events.thread(e);
+    let count = item_or(counts.as_slice(), own, 0).max(linked.links.local(e) - 1);
+    rows.raise(row, counts)?;
+    counts.resize(size, 0)?;
+    if (own as usize) < size {
+        counts[own as usize] = count;
+    }
+    Ok(())
 }
