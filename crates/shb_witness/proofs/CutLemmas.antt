@@ -1,7 +1,7 @@
 -- The greater of two answers of an order is a cut, and nothing after a predecessor is below it.
 use Rattle.std.proofs.Common.{◌≡◌, ℕ, zero, suc, ◌+◌, ◌-◌, ◌<◌, ◌≤◌, ◌⊎◌, inl, inr, List, [], ◌∷◌, ◌++◌, Err, Global, Ok, Result, Some, Vec, length, get_or, refl, subst, sym, ap, arith, ◌∙◌}
-use Rattle.std.specs.Prelude.{Contains, IfOk, max, ◌↔◌}
-use Rattle.shb_witness.proofs.Words.{AreOfThreads, AreWithinCuts, BelowEither, Contains-append_cases, Contains-append_left, Contains-append_right, Contains-get_or, EndsBefore, Event, HasCuts, IsCut, IsListed, IsPrintedSchedule, IsRest, IsStrictlyIncreasing, IsWithin, IsWithinCut, IsWithinCuts, NoMemory, Reach, Sizes, below_from_local, below_pred_in_range, cases_lt, get_or-append, get_or-append_right, get_or_push, length-append, length_push, listed_more_yes, listed_none, local_from_below, local_time, range_with_len, thread_at, thread_item, thread_within}
+use Rattle.std.specs.Prelude.{Contains, IfOk, max, replicate, ◌↔◌}
+use Rattle.shb_witness.proofs.Words.{AreOfThreads, AreRaisedCounts, AreWithinCuts, BelowEither, Contains-append_cases, Contains-append_left, Contains-append_right, Contains-get_or, EndsBefore, Event, HasCuts, IsCut, IsListed, IsPrintedSchedule, IsRest, IsStrictlyIncreasing, IsWithin, IsWithinCut, IsWithinCuts, NoMemory, Reach, Sizes, below_from_local, below_pred_in_range, cases_lt, get_or-append, get_or-append_right, get_or-replicate, length-append, length-replicate, listed_more_yes, listed_none, local_from_below, local_time, range_with_len, thread_at, thread_item, thread_within}
 use Rattle.shb_lines.specs.declared.event.Op.TheVariants.{Read}
 use Rattle.shb_lines.specs.events.Order.{IsBelowPredCount}
 use Rattle.shb_positions.proofs.RunLemmas.{range_more}
@@ -26,17 +26,19 @@ cut_is trace ordered i j t n m same first second k of_k = (below, within)
     within (inl h) = let le = local_from_below trace t i n first_count k of_k h in omega (arith, le)
     within (inr h) = let le = local_from_below trace t j m second_count k of_k h in omega (arith, le)
 
-pub cuts_more : (trace : List Event) (i j n cut : ℕ) (cuts : List ℕ) → IsCut trace i j n cut → HasCuts trace i j n cuts → HasCuts trace i j (n + 1) (cuts ++ cut ∷ [])
-cuts_more trace i j n cut cuts is old = record {
-  as_long = length_push cuts cut ∙ ap (λ m. m + 1) old.as_long;
-  each = λ t lt. go t lt (cases_lt t n);
+-- zeros that are raised to what is below the one predecessor, and then to what is below the other
+pub cuts_raised : (trace ordered : List Event) (i j n : ℕ) (first both : List ℕ) → ordered ≡ trace → AreRaisedCounts ordered i (replicate n 0) first → AreRaisedCounts ordered j first both → HasCuts trace i j n both
+cuts_raised trace ordered i j n first both same one other = record {
+  as_long = other.as_long ∙ long;
+  each = λ t lt.
+    let a = one.each t (subst (λ (m : ℕ). t < m) (sym (length-replicate {A = ℕ} n 0)) lt) in
+    let b = other.each t (subst (λ (m : ℕ). t < m) (sym long) lt) in
+    let none = get_or-replicate {A = ℕ} n t 0 0 lt in
+    subst (λ (cut : ℕ). IsCut trace i j t cut) (let old = a.raised in let new = b.raised in omega (arith, none, old, new)) (cut_is trace ordered i j t a.count b.count same a.is b.is);
 }
   where
-    go : (t : ℕ) → t < n + 1 → (t < n) ⊎ (n ≤ t) → IsCut trace i j t (get_or (cuts ++ cut ∷ []) t 0)
-    go t lt (inl low) = subst (λ (c : ℕ). IsCut trace i j t c) (sym (get_or-append cuts (cut ∷ []) 0 t (let long = old.as_long in omega arith))) (old.each t low)
-    go t lt (inr le) =
-        let same : n ≡ t = omega arith in
-        subst (λ (c : ℕ). IsCut trace i j t c) (sym (get_or_push cuts cut 0 t (old.as_long ∙ same))) (subst (λ (u : ℕ). IsCut trace i j u cut) same is)
+    long : length first ≡ n
+    long = one.as_long ∙ length-replicate {A = ℕ} n 0
 
 -- the test of an event
 pub within_test : (trace linked : List Event) (cuts : List ℕ) (k t time : ℕ) → linked ≡ trace → thread_at trace k ≡ Some t → ((u : ℕ) → thread_at linked k ≡ Some u → time ≡ local_time linked u k) → (time ≤ get_or cuts t 0) ↔ IsWithinCuts trace cuts k

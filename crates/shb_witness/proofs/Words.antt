@@ -18,10 +18,11 @@ pub use Rattle.shb_lines.specs.events.Reach.{is_below_pred, of_thread}
 pub use Rattle.shb_lines.specs.events.Schedule.{IsPrintedSchedule, IsSchedule}
 pub use Rattle.shb_lines.specs.events.Sizes.{IsWithin}
 pub use Rattle.shb_lines.specs.text.Limits.{most_events}
+pub use Rattle.shb_stamps.specs.Counts.{AreRaisedCounts}
 pub use Rattle.shb_witness.specs.Cuts.{AreOfThreads, AreWithinCuts, BelowEither, EndsBefore, HasCuts, IsCut, IsRest, IsWithinCuts, Reach}
 pub use Rattle.shb_witness.specs.Schedules.{AreRaces, Asked, AsksEach, ends_of, schedule_at}
 pub use Rattle.shb_witness.specs.ThreadEvents.{AreGrouped, AreStarts, IsWithinCut, events_before, events_of}
-pub use Rattle.std.proofs.Math.ListN.{get_or-append}
+pub use Rattle.std.proofs.Math.ListN.{get_or-append, get_or-replicate, length-replicate}
 pub use Rattle.std.proofs.lemmas.Bool.{cases_Bool, cases_lt, cases_order}
 pub use Rattle.std.proofs.lemmas.List.{append-nil, append_assoc, flat_map_more, get_or-append_right, get_or-drop, get_or-set_other, get_or-set_same, get_or-take, get_or_push, get_or_read, length-append, length-drop, length-set, length-take-le, length_push, take_all, take_more}
 pub use Rattle.std.proofs.lemmas.List.Elements.{All-contains, Contains-append_cases, Contains-append_left, Contains-append_right, Contains-get_or}

@@ -1,6 +1,6 @@
 //! The printed schedule of a race: how far each thread is below the predecessors of the pair, and the events up to there.
 
-ghost use Rattle.std.specs.Prelude.{◌≡◌, ◌↔◌, ◌^◌, ◌-◌, ◌<◌, ◌≤◌, ℕ, Contains, IfOk, length};
+ghost use Rattle.std.specs.Prelude.{◌≡◌, ◌↔◌, ◌^◌, ◌-◌, ◌<◌, ◌≤◌, ℕ, Contains, IfOk, length, replicate};
 ghost use Rattle.std.specs.List.Sorted.{IsStrictlyIncreasing};
 ghost use Rattle.shb_lines.specs.events.Race.{Race};
 ghost use Rattle.shb_lines.specs.events.Schedule.{IsPrintedSchedule, IsSchedule};
@@ -16,6 +16,13 @@ use shb_positions::Positions;
 use shb_stamps::{Order, Ordered};
 use std::alloc::Global;
 
+/// As many zeros as this.
+fn zeros(alloc: Global, size: u32) -> Result<Vec<u32>, NoMemory>
+    ensures { IfOk result (λ zeros. zeros.items ≡ replicate size 0) }
+{
+    Ok(vec![in alloc; 0; size as usize]?)
+}
+
 /// For each thread, the greatest local time of an event that is below a predecessor of the pair,
 /// or 0 where none is.
 fn cuts_of<O: Order>(
@@ -30,12 +37,9 @@ fn cuts_of<O: Order>(
     ensures cuts { IfOk result (λ cuts. HasCuts ordered.now.disciplined.now.events.now pair.first pair.second
         ordered.now.disciplined.now.sizes.threads cuts.items) }
 {
-    let mut cuts = Vec::with_capacity(alloc, ordered.disciplined.sizes.threads as usize)?;
-    for thread in 0..ordered.disciplined.sizes.threads {
-        let first = ordered.order.below_pred(pair.first, thread);
-        let second = ordered.order.below_pred(pair.second, thread);
-        cuts.push(first.max(second))?;
-    }
+    let mut cuts = zeros(alloc, ordered.disciplined.sizes.threads)?;
+    ordered.order.raise_below(pair.first, &mut cuts)?;
+    ordered.order.raise_below(pair.second, &mut cuts)?;
     Ok(cuts)
 }
 
@@ -73,7 +77,7 @@ fn end_of(threads: &ThreadEvents<'_>, cuts: &[u32]) -> u32
 /// reordering that keeps happens-before. Which of the schedules of a race is printed is this
 /// project's own rule. `NoMemory` where memory was refused.
 ///
-/// It asks the order about both accesses, once for each thread, and goes once over the events.
+/// It asks the order once about each of the two accesses, for all threads, and goes once over the events.
 pub fn schedule<O: Order>(
     alloc: Global,
     order: &O,
