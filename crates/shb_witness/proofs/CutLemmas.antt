@@ -31,10 +31,10 @@ pub cuts_raised : (trace ordered : List Event) (i j n : ℕ) (first both : List 
 cuts_raised trace ordered i j n first both same one other = record {
   as_long = other.as_long ∙ long;
   each = λ t lt.
-    let a = one.each t (subst (λ (m : ℕ). t < m) (sym (length-replicate {A = ℕ} n 0)) lt) in
-    let b = other.each t (subst (λ (m : ℕ). t < m) (sym long) lt) in
-    let none = get_or-replicate {A = ℕ} n t 0 0 lt in
-    subst (λ (cut : ℕ). IsCut trace i j t cut) (let old = a.raised in let new = b.raised in omega (arith, none, old, new)) (cut_is trace ordered i j t a.count b.count same a.is b.is);
+      let a = one.each t (subst (λ (m : ℕ). t < m) (sym (length-replicate {A = ℕ} n 0)) lt) in
+      let b = other.each t (subst (λ (m : ℕ). t < m) (sym long) lt) in
+      let none = get_or-replicate {A = ℕ} n t 0 0 lt in
+      subst (λ (cut : ℕ). IsCut trace i j t cut) (let old = a.raised in let new = b.raised in omega (arith, none, old, new)) (cut_is trace ordered i j t a.count b.count same a.is b.is);
 }
   where
     long : length first ≡ n
