@@ -1,11 +1,13 @@
 //! Links, and the forms of the order: what each says of each event, against plain definitions over the list of events.
 use crate::asserting::{Host, same};
 use crate::traces::{Asks, WORKED, ask_of, joined_unborn, passed_on, through_a_read};
-use shb_clocks::{ClockVersions, FullClocks, Order, PlainOrder, full, plain, versions};
+use shb_clocks::{
+    ClockVersions, FullClocks, ListedRows, Order, PlainOrder, at_events, full, plain, versions,
+};
 use shb_discipline::Disciplined;
 use shb_io::NoMemory;
 use shb_lines::{Op, Trace};
-use shb_links::Links;
+use shb_links::{Linked, Links};
 use std::alloc::Global;
 use std::test::Fail;
 
@@ -112,9 +114,32 @@ fn links_of_a_thread_without_events(rt: HostRuntime) -> Result<(), Fail> {
     ask_of(&rt, joined_unborn().text, &LinksOfUnborn)
 }
 
-/// What the forms say of an event and a thread: of all forms the same.
+/// What the forms say of an event and a thread, one by one and for all threads at once: of all forms the same.
 #[derive(Clone, Copy)]
 struct FormsAgree;
+
+impl FormsAgree {
+    /// Counts that begin with 1 are raised to what the marks say, where that is more.
+    fn expect<O: Order>(
+        &self,
+        rt: &impl Host,
+        order: &O,
+        marks: &PlainOrder<'_>,
+        trace: &Trace,
+        what: &str,
+    ) -> Result<(), Fail> {
+        for e in 0..trace.len() {
+            let mut counts = vec![in rt.alloc(); 1; trace.threads() as usize]?;
+            order.raise_below(e, &mut counts)?;
+            for t in 0..trace.threads() {
+                let wanted = marks.below_pred(e, t);
+                same(rt, &order.below_pred(e, t), &wanted, what);
+                same(rt, &counts[t as usize], &wanted.max(1), what);
+            }
+        }
+        Ok(())
+    }
+}
 
 impl Asks for FormsAgree {
     fn ask<H: Host>(&self, rt: &H, trace: &Disciplined<'_>, links: &Links<'_>) -> Result<(), Fail> {
@@ -122,19 +147,19 @@ impl Asks for FormsAgree {
         let marks: PlainOrder<'_> = plain(alloc, trace, links)?;
         let clocks: FullClocks<'_> = full(alloc, trace, links)?;
         let kept: ClockVersions<'_> = versions(alloc, trace, links)?;
+        let mut events = Vec::new(alloc);
         for e in 0..trace.trace().len() {
-            for t in 0..trace.trace().threads() {
-                let wanted = marks.below_pred(e, t);
-                same(
-                    rt,
-                    &clocks.below_pred(e, t),
-                    &wanted,
-                    "a clock for each event",
-                );
-                same(rt, &kept.below_pred(e, t), &wanted, "clocks that are kept");
-            }
+            events.push(e)?;
         }
-        Ok(())
+        let listed: ListedRows<'_> = at_events(
+            alloc,
+            Linked::new(trace, links),
+            events.as_slice(),
+        )?;
+        self.expect(rt, &marks, &marks, trace.trace(), "marks")?;
+        self.expect(rt, &clocks, &marks, trace.trace(), "a clock for each event")?;
+        self.expect(rt, &kept, &marks, trace.trace(), "clocks that are kept")?;
+        self.expect(rt, &listed, &marks, trace.trace(), "rows of listed events")
     }
 }
 
