@@ -1,5 +1,5 @@
 -- What is kept of each variable, an access at a time.
-use Rattle.shb_stamps.proofs.Words.{AreOpen, AreScreened, Event, IsScreened, Latest, Race, cases_eq, common_steps, get_or-map, is_unknown, length-set, set, variable_at}
+use Rattle.shb_stamps.proofs.Words.{AreOpen, AreScreened, Event, IsScreened, Latest, cases_eq, common_steps, get_or-map, is_unknown, length-set, set, variable_at}
 use Rattle.std.proofs.Common.{◌≡◌, ◌≢◌, ℕ, ◌+◌, ◌<◌, ◌⊎◌, inl, inr, Bool, true, List, Some, length, get_or, arith, ap, sym, ◌∙◌, get_or-set_same, get_or-set_other}
 use Rattle.std.specs.Prelude.{map}
 use Rattle.shb_stamps.proofs.Screening.{screened_later}

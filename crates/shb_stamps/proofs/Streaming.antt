@@ -28,7 +28,7 @@ module _ (past : List Event) (e : Event) (disciplined : IsDisciplined (past ++ e
   own_time thread same = let last = last_time past e thread (of_last thread same) in let known = old.times thread in omega (arith, last, known)
 
   before : IsBefore now n true stream.clocks
-  before = clocks_longer past e stream.clocks.rows stream.clocks.current.items stream.clocks.locks.items stream.clocks.variables.items old.clocks
+  before = clocks_longer past e stream.clocks.rows.list stream.clocks.current.items stream.clocks.locks.items stream.clocks.variables.items old.clocks
 
   pub few_times : (t : ℕ) → get_or stream.times.items t 0 ≤ n
   few_times t = let known = old.times t in let most = count_by-le-length (is_of t) past in omega (arith, known, most)
@@ -80,9 +80,9 @@ module _ (past : List Event) (e : Event) (disciplined : IsDisciplined (past ++ e
       counted : time ≡ get_or stream.times.items thread 0 + 1
       counted = let low = few_times thread in omega (arith, low, few, own_is, time_is)
 
-  pub other_count : (thread other answer : ℕ) → e.thread ≡ thread → (other ≡ thread → ⊥) → answer ≡ get_or (get_or stream.clocks.rows (get_or stream.clocks.current.items thread 0) []) other 0 → IsBelowPredCount now other n answer
-  other_count thread other answer same ne is = count_other now now stream.clocks.rows n thread other (get_or stream.clocks.current.items thread 0) answer (get_or stream.clocks.rows (get_or stream.clocks.current.items thread 0) []) refl
-      (row_at now disciplined n thread true stream.clocks.rows stream.clocks.current.items stream.clocks.locks.items stream.clocks.variables.items (of_last thread same) before (get_or stream.clocks.current.items thread 0) refl) refl ne is
+  pub other_count : (thread other answer : ℕ) → e.thread ≡ thread → (other ≡ thread → ⊥) → answer ≡ get_or (get_or stream.clocks.rows.list (get_or stream.clocks.current.items thread 0) []) other 0 → IsBelowPredCount now other n answer
+  other_count thread other answer same ne is = count_other now now stream.clocks.rows.list n thread other (get_or stream.clocks.current.items thread 0) answer (get_or stream.clocks.rows.list (get_or stream.clocks.current.items thread 0) []) refl
+      (row_at now disciplined n thread true stream.clocks.rows.list stream.clocks.current.items stream.clocks.locks.items stream.clocks.variables.items (of_last thread same) before (get_or stream.clocks.current.items thread 0) refl) refl ne is
 
 -- before the first event
 pub streamed_none : (stream : StreamClocks) → IsBefore [] 0 true stream.clocks → stream.times.items ≡ [] → IsStreamed [] stream

@@ -59,7 +59,7 @@ module _ (trace links : List Event) (e x : ℕ) (clocks : Clocks) (disciplined :
   ]
 
   pub passed_write_alone : op_at trace e ≡ Some (Write x) → IsBefore trace (e + 1) false clocks
-  passed_write_alone writes = by_thread (IsBefore trace (e + 1) false clocks) (λ thread of_e. passed_write trace e thread (local_time trace thread e) 0 (Write x) (next_known trace e thread (Write x) disciplined few low of_e writes (λ t h. (let f : ⊥ = cc in f))) false clocks.rows clocks.current.items clocks.locks.items clocks.variables.items before x refl (none_kept e))
+  passed_write_alone writes = by_thread (IsBefore trace (e + 1) false clocks) (λ thread of_e. passed_write trace e thread (local_time trace thread e) 0 (Write x) (next_known trace e thread (Write x) disciplined few low of_e writes (λ t h. (let f : ⊥ = cc in f))) false clocks.rows.list clocks.current.items clocks.locks.items clocks.variables.items before x refl (none_kept e))
 
   pub passed_read_alone : op_at trace e ≡ Some (Read x) → IsBefore trace (e + 1) false clocks
-  passed_read_alone reads = by_thread (IsBefore trace (e + 1) false clocks) (λ thread of_e. passed_read trace e thread (local_time trace thread e) 0 (Read x) (next_known trace e thread (Read x) disciplined few low of_e reads (λ t h. (let f : ⊥ = cc in f))) false clocks.rows clocks.current.items clocks.locks.items clocks.variables.items before x refl none_kept)
+  passed_read_alone reads = by_thread (IsBefore trace (e + 1) false clocks) (λ thread of_e. passed_read trace e thread (local_time trace thread e) 0 (Read x) (next_known trace e thread (Read x) disciplined few low of_e reads (λ t h. (let f : ⊥ = cc in f))) false clocks.rows.list clocks.current.items clocks.locks.items clocks.variables.items before x refl none_kept)

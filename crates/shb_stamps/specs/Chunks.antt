@@ -1,5 +1,5 @@
 -- Rows in one memory, which share chunks of 64 entries.
-use Rattle.std.specs.Prelude.{◌≡◌, ℕ, ◌+◌, ◌<◌, ◌≤◌, ◌++◌, ◌^◌, List, [], drop, length, map, slice_index_or, take}
+use Rattle.std.specs.Prelude.{◌≡◌, ℕ, ◌+◌, ◌-◌, ◌*◌, ◌<◌, ◌≤◌, ◌++◌, ◌^◌, List, [], drop, length, map, min, slice_index_or, take}
 use Rattle.std.specs.List.{flat_map}
 use Rattle.shb_stamps.specs.declared.row_list.Span.{Span}
 
@@ -32,6 +32,18 @@ row_in chunks cells span = row_by chunks (numbers_in cells span) (take (span.who
 -- all rows, in order
 abbrev pub rows_in : List (List ℕ) → List ℕ → List Span → List (List ℕ)
 rows_in chunks cells spans = map (row_in chunks cells) spans
+
+-- rows, and how many bytes they take
+pub record Rows : Type 0 where
+  pub list : List (List ℕ)
+  pub size : ℕ
+
+-- all rows, with 32 bytes each, 4 for each cell and 256 for each chunk
+abbrev pub stored : List (List ℕ) → List ℕ → List Span → Rows
+stored chunks cells spans = record {
+  list = rows_in chunks cells spans;
+  size = min (32 * length spans + 4 * length cells + 256 * length chunks) (2 ^ 64 - 1);
+}
 
 -- the cells of a row are among these, and name chunks; it is whole, or it has chunks
 pub record IsInside (chunks : List (List ℕ)) (cells : List ℕ) (span : Span) : Type 0 where

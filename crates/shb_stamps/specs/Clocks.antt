@@ -28,7 +28,7 @@ pub record AreClocks (trace : List Event) (n : ℕ) (all : Bool) (rows : List (L
 
 -- the clocks before event n
 abbrev pub IsBefore : List Event → ℕ → Bool → Clocks → Type 0
-IsBefore trace n all clocks = AreClocks trace n all clocks.rows clocks.current.items clocks.locks.items clocks.variables.items
+IsBefore trace n all clocks = AreClocks trace n all clocks.rows.list clocks.current.items clocks.locks.items clocks.variables.items
 
 -- event n of a disciplined trace is of this thread, has this local time and does this; where it joins a thread, that one had so many events
 pub record IsNext (trace : List Event) (n thread : ℕ) (op : Op) (time joined : ℕ) : Type 0 where

@@ -23,5 +23,5 @@ pub record HasListedRows (trace : List Event) (rows : List (List ℕ)) (events :
 
 -- what is kept after the first n of the listed events
 pub record AreListedRows (trace : List Event) (events : List ℕ) (n : ℕ) (kept : KeptRows) : Type 0 where
-  pub few : length kept.rows ≤ n
-  pub before : HasListedRows trace kept.rows events n kept.before.items
+  pub few : length kept.rows.list ≤ n
+  pub before : HasListedRows trace kept.rows.list events n kept.before.items

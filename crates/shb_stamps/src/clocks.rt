@@ -10,7 +10,7 @@
 //! | `C|r(x)` | none: the stamp names it | 0, 1, 1 | 1 A 1 |
 //! | `B|w(x)` | | 0, 1, 1 | 1 B 2: the clock `1 2` |
 
-ghost use Rattle.std.specs.Prelude.{◌≡◌, ◌+◌, ◌<◌, ◌≤◌, ◌↔◌, ◌^◌, ℕ, Bool, List, [], IfOk, IsTrue, OnOk, false, true, length, max, slice_index_or};
+ghost use Rattle.std.specs.Prelude.{◌≡◌, ◌+◌, ◌-◌, ◌*◌, ◌⊎◌, ◌<◌, ◌≤◌, ◌↔◌, ◌^◌, ℕ, Bool, List, [], IfOk, IsTrue, OnOk, false, true, length, max, min, slice_index_or};
 ghost use Rattle.shb_lines.specs.Growing.{IsPut};
 ghost use Rattle.shb_lines.specs.declared.event.Event.{Event};
 ghost use Rattle.shb_lines.specs.declared.event.Op.TheVariants.{Fork, Read, Release, Write};
@@ -24,12 +24,11 @@ use crate::stamp::{Stamp, is_joined, no_stamps};
 use shb_io::NoMemory;
 use shb_lines::{Op, Sizes, item_or, put};
 use std::alloc::Global;
-use std::mem;
 
 /// What is known of the order before an event. Threads, locks and variables are told by their numbers, and each
 /// event may name new ones. A row has an entry for each thread up to the last one that it knows, and never
 /// changes. Where the rows have grown to twice what those in use took, the ones that a thread, a lock or a
-/// variable names are moved to a second memory, and that of the others is used the next time.
+/// variable names are moved to a new memory, and the old one is freed.
 #[derive(Drop)]
 pub struct Clocks {
     pub rows: RowList,
@@ -41,8 +40,6 @@ pub struct Clocks {
     pub variables: Vec<Stamp>,
     /// Space to make a row in.
     pub clock: Vec<u32>,
-    /// The memory of rows that were moved, for the next ones that are.
-    pub unused: RowList,
     /// The size of the rows at which those that nothing names are freed.
     pub limit: usize,
 }
@@ -57,20 +54,12 @@ pub struct AfterSource {
 
 /// The size of the rows at which the next compaction is due: twice that of those in use, at least 1 MiB, and at
 /// least the bytes of all stamps, which a compaction looks at.
-fn size_limit(used: usize, stamps: usize) -> usize {
+fn size_limit(used: usize, stamps: usize) -> usize
+    ensures { result ≡ max (max (min (used * 2) (2 ^ 64 - 1)) (min (stamps * 12) (2 ^ 64 - 1))) 1048576 }
+{
     used.saturating_mul(2)
         .max(stamps.saturating_mul(12))
         .max(1_048_576)
-}
-
-/// The memory of rows that were moved, of which so many bytes are in use, for the next ones that are. It is freed
-/// where more than two thirds are in use: then more will be, and it wouldn't be enough.
-fn memory_of(alloc: Global, old: RowList, used: usize) -> RowList {
-    let size = old.size();
-    if used > size - size / 3 {
-        return RowList::empty(alloc);
-    }
-    old
 }
 
 /// Makes a clock that of a row, with a time put at a thread.
@@ -82,7 +71,7 @@ fn set_clock(
     thread: u32,
     time: u32,
 ) -> Result<(), NoMemory>
-    ensures { OnOk result (IsPut 0 thread time (slice_index_or rows.now row []) clock.new.items) }
+    ensures { OnOk result (IsPut 0 thread time (slice_index_or rows.now.list row []) clock.new.items) }
 {
     rows.copy_to(row, clock)?;
     put(clock, thread, time, 0)?;
@@ -93,7 +82,7 @@ fn set_clock(
 /// below the row then.
 #[inline(always)]
 fn covers(rows: &RowList, row: u32, thread: u32, time: u32) -> bool
-    ensures { result ≡ true → Covers (slice_index_or rows.now row []) thread time }
+    ensures { result ≡ true → Covers (slice_index_or rows.now.list row []) thread time }
 {
     if time <= 1 {
         return false;
@@ -104,7 +93,7 @@ fn covers(rows: &RowList, row: u32, thread: u32, time: u32) -> bool
 /// Raises each entry of a clock to that of a row, unless it covers the row. Says whether the clock is the same.
 #[inline(always)]
 fn join(clock: &mut Vec<u32>, rows: &RowList, row: u32, covered: bool) -> Result<bool, NoMemory>
-    ensures raised { covered ≡ false → OnOk result ((t : ℕ) → slice_index_or clock.new.items t 0 ≡ max (slice_index_or clock.old.items t 0) (slice_index_or (slice_index_or rows.now row []) t 0)) }
+    ensures raised { covered ≡ false → OnOk result ((t : ℕ) → slice_index_or clock.new.items t 0 ≡ max (slice_index_or clock.old.items t 0) (slice_index_or (slice_index_or rows.now.list row []) t 0)) }
     ensures same { IfOk result (λ same. same ≡ true → clock.new.items ≡ clock.old.items) }
     ensures covered { covered ≡ true → OnOk result (clock.new.items ≡ clock.old.items) }
 {
@@ -130,7 +119,7 @@ fn row_after(
     before: u32,
     source: Stamp,
 ) -> Result<AfterSource, NoMemory>
-    ensures { IfOk result (HasRowAfter rows.old rows.new thread time before source) }
+    ensures { IfOk result (HasRowAfter rows.old.list rows.new.list thread time before source) }
 {
     let told = source.is_known(thread, rows, before);
     if told {
@@ -178,7 +167,8 @@ fn rename(
 impl Clocks {
     /// What is known before the first event. There is room for so many threads, locks and variables.
     pub fn new(alloc: Global, sizes: Sizes) -> Result<Clocks, NoMemory>
-        ensures { (trace : List Event) (all : Bool) → IfOk result (IsBefore trace 0 all) }
+        ensures before { (trace : List Event) (all : Bool) → IfOk result (IsBefore trace 0 all) }
+        ensures limit { IfOk result (λ clocks. clocks.limit ≤ max 1048576 (12 * (sizes.locks + sizes.variables))) }
     {
         let stamps = (sizes.locks as usize).saturating_add(sizes.variables as usize);
         Ok(Clocks {
@@ -187,7 +177,6 @@ impl Clocks {
             locks: no_stamps(alloc, sizes.locks)?,
             variables: no_stamps(alloc, sizes.variables)?,
             clock: Vec::new(alloc),
-            unused: RowList::empty(alloc),
             limit: size_limit(0, stamps),
         })
     }
@@ -219,7 +208,7 @@ impl Clocks {
     /// that of the variable's last write, and by a join that of the last event of the thread, which had so many.
     fn source(&self, op: Op, joined: u32) -> Stamp
         ensures source { (trace : List Event) (n thread time : ℕ) (all : Bool) → IsNext trace n thread op time joined → IsBefore trace n all self.now
-            → IsSource trace self.now.rows n result }
+            → IsSource trace self.now.rows.list n result }
         ensures write { (x : ℕ) → op ≡ Read x → result ≡ slice_index_or self.now.variables.items x empty_stamp }
     {
         match op {
@@ -240,7 +229,7 @@ impl Clocks {
     /// How many events of another thread a thread knows.
     #[inline(always)]
     pub fn known_of(&self, thread: u32, other: u32) -> u32
-        ensures { result ≡ slice_index_or (slice_index_or self.now.rows (slice_index_or self.now.current.items thread 0) []) other 0 }
+        ensures { result ≡ slice_index_or (slice_index_or self.now.rows.list (slice_index_or self.now.current.items thread 0) []) other 0 }
     {
         let number = self.row_number(thread);
         self.rows.entry(number, other)
@@ -325,28 +314,28 @@ impl Clocks {
 
     /// Frees the rows that nothing names.
     fn compact(&mut self, alloc: Global) -> Result<(), NoMemory>
-        ensures { (trace : List Event) (n : ℕ) (all : Bool) → n + 1 < 2 ^ 32 → IsBefore trace n all self.old → OnOk result (IsBefore trace n all self.new) }
+        ensures room { OnOk result (self.new.rows.size ≤ self.new.limit) }
+        ensures most { OnOk result (self.new.limit ≤ max 1048576 (max (12 * (length self.new.locks.items + length self.new.variables.items)) (2 * self.new.rows.size))) }
+        ensures before { (trace : List Event) (n : ℕ) (all : Bool) → n + 1 < 2 ^ 32 → IsBefore trace n all self.old → OnOk result (IsBefore trace n all self.new) }
     {
-        let unused = mem::replace(&mut self.unused, RowList::empty(alloc));
-        let rows = compacted(
+        self.rows = compacted(
             alloc,
             &self.rows,
-            unused,
             &mut self.current,
             &mut self.locks,
             &mut self.variables,
         )?;
         let stamps = self.locks.len().saturating_add(self.variables.len());
-        self.limit = size_limit(rows.size(), stamps);
-        let old = mem::replace(&mut self.rows, rows);
-        self.unused = memory_of(alloc, old, self.rows.size());
+        self.limit = size_limit(self.rows.size(), stamps);
         Ok(())
     }
 
     /// Frees the rows that nothing names where all have grown to their limit.
     #[inline(always)]
     fn make_room(&mut self, alloc: Global) -> Result<(), NoMemory>
-        ensures { (trace : List Event) (n : ℕ) (all : Bool) → n + 1 < 2 ^ 32 → IsBefore trace n all self.old → OnOk result (IsBefore trace n all self.new) }
+        ensures room { OnOk result (self.new.rows.size ≤ self.new.limit) }
+        ensures most { OnOk result ((self.new.limit ≡ self.old.limit) ⊎ (self.new.limit ≤ max 1048576 (max (12 * (length self.new.locks.items + length self.new.variables.items)) (2 * self.new.rows.size)))) }
+        ensures before { (trace : List Event) (n : ℕ) (all : Bool) → n + 1 < 2 ^ 32 → IsBefore trace n all self.old → OnOk result (IsBefore trace n all self.new) }
     {
         if self.rows.size() < self.limit {
             return Ok(());

@@ -40,11 +40,11 @@ fn keep(
 ) -> Result<u32, NoMemory>
     requires in_range { e < length linked.now.events.now }
     requires before { IsBefore linked.now.events.now e false clocks.now }
-    requires few { length rows.old + 1 < 2 ^ 32 }
-    ensures more { OnOk result (AreMore rows.old rows.new) }
-    ensures few { OnOk result (length rows.new ≤ length rows.old + 1) }
+    requires few { length rows.old.list + 1 < 2 ^ 32 }
+    ensures more { OnOk result (AreMore rows.old.list rows.new.list) }
+    ensures few { OnOk result (length rows.new.list ≤ length rows.old.list + 1) }
     ensures row { (t : ℕ) → thread_at linked.now.events.now e ≡ Some t
-        → IfOk result (IsRowFor linked.now.events.now rows.new t (λ k. BelowPred linked.now.events.now k e)) }
+        → IfOk result (IsRowFor linked.now.events.now rows.new.list t (λ k. BelowPred linked.now.events.now k e)) }
 {
     let before = row_before(clocks, linked, e);
     let thread = linked.events.thread(e);
@@ -112,7 +112,7 @@ impl<'a> Model for ListedRows<'a> {
     ghost view = { λ o. record { trace = o.linked.events.now; events = o.events.items } };
 
     ghost invariant = { λ o. IsStrictlyIncreasing o.events.items
-        × HasListedRows o.linked.events.now o.rows o.events.items (length o.events.items) o.before.items };
+        × HasListedRows o.linked.events.now o.rows.list o.events.items (length o.events.items) o.before.items };
 }
 
 /// These numbers, each once and rising.

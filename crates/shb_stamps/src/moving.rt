@@ -122,23 +122,22 @@ impl Moving {
     }
 }
 
-/// The first row, and those that these tables name, and no others, in the memory of rows that aren't used any more.
-/// The first stays the first, and the tables name each by its new number then.
+/// The first row, and those that these tables name, and no others, in a memory of their own. The first stays the
+/// first, and the tables name each by its new number then.
 pub fn compacted(
     alloc: Global,
     old: &RowList,
-    unused: RowList,
     current: &mut Vec<u32>,
     locks: &mut Vec<Stamp>,
     variables: &mut Vec<Stamp>,
 ) -> Result<RowList, NoMemory>
-    ensures first { 0 < length old.now → length old.now < 2 ^ 32 → IfOk result (λ rows. IsMovedRow old.now rows 0 0) }
-    ensures moved { length old.now < 2 ^ 32 → IfOk result (λ rows. HasMoved old.now rows current.old.items current.new.items
+    ensures first { 0 < length old.now.list → length old.now.list < 2 ^ 32 → IfOk result (λ rows. IsMovedRow old.now.list rows.list 0 0) }
+    ensures moved { length old.now.list < 2 ^ 32 → IfOk result (λ rows. HasMoved old.now.list rows.list current.old.items current.new.items
         locks.old.items locks.new.items variables.old.items variables.new.items) }
 {
     let mut moving = Moving::new(alloc, old.count())?;
     moving.row(0)?;
     moving.tables(current, locks, variables)?;
-    let rows = old.kept(alloc, unused, moving.kept.as_slice())?;
+    let rows = old.kept(alloc, moving.kept.as_slice())?;
     Ok(rows)
 }

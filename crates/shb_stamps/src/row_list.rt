@@ -10,7 +10,7 @@
 //! Whoever adds a row says which one it may share chunks with; the chunks at the same place are compared. A compaction
 //! shares what was shared before.
 
-ghost use Rattle.std.specs.Prelude.{◌≡◌, ◌+◌, ◌-◌, ◌*◌, ◌≤◌, ◌<◌, ◌++◌, ◌^◌, List, [], ◌∷◌, ℕ, IfOk, IfSome, OnOk, length, max, min, slice_index_or, true};
+ghost use Rattle.std.specs.Prelude.{◌≡◌, ◌+◌, ◌-◌, ◌*◌, ◌/◌, ◌≤◌, ◌<◌, ◌++◌, ◌^◌, List, [], ◌∷◌, ℕ, IfOk, IfSome, OnOk, length, max, min, slice_index_or, true};
 ghost use Rattle.shb_stamps.specs.Chunks.{AreChunks, IsInside, IsLonger, row_in};
 ghost use Rattle.shb_stamps.specs.Moved.{AreKept};
 
@@ -47,19 +47,6 @@ pub struct RowList {
     chunks: Vec<[u32; 64]>,
     /// The numbers of the chunks that the next row may have.
     hints: Vec<u32>,
-    /// How many bytes the rows take.
-    size: usize,
-}
-
-/// How many bytes so many rows take, with so many cells and chunks.
-#[inline(always)]
-fn bytes_of(spans: usize, cells: usize, chunks: usize) -> usize
-    ensures { result ≡ min (32 * spans + 4 * cells + 256 * chunks) (2 ^ 64 - 1) }
-{
-    let short = spans
-        .saturating_mul(32)
-        .saturating_add(cells.saturating_mul(4));
-    short.saturating_add(chunks.saturating_mul(256))
 }
 
 /// The row whose cells are there.
@@ -186,14 +173,11 @@ fn add_cells(
     })
 }
 
-/// Takes all items away, and makes room for half as many again as so many.
-fn clear_for<T: Copy>(items: &mut Vec<T>, count: usize) -> Result<(), NoMemory>
-    ensures { OnOk result (items.new.items ≡ []) }
+/// Half as many again.
+fn half_more(count: usize) -> usize
+    ensures { result ≡ min (count + count / 2) (2 ^ 64 - 1) }
 {
-    items.clear();
-    let room = count.saturating_add(count / 2);
-    items.reserve(room)?;
-    Ok(())
+    count.saturating_add(count / 2)
 }
 
 /// Adds for each of these chunks the number of its copy, where it has one.
@@ -205,12 +189,11 @@ fn add_copies(hints: &mut Vec<u32>, numbers: &[u32], copies: &[u32]) -> Result<(
 }
 
 impl Model for RowList {
-    ghost use Rattle.std.specs.Prelude.{List, ℕ};
-    ghost use Rattle.shb_stamps.specs.Chunks.{AreChunks, AreInside, rows_in};
+    ghost use Rattle.shb_stamps.specs.Chunks.{AreChunks, AreInside, Rows, stored};
 
-    ghost Value = { List (List ℕ) };
+    ghost Value = { Rows };
 
-    ghost view = { λ r. rows_in r.chunks.items r.cells.items r.spans.items };
+    ghost view = { λ r. stored r.chunks.items r.cells.items r.spans.items };
 
     ghost invariant = { λ r. AreChunks r.chunks.items × AreInside r.chunks.items r.cells.items r.spans.items };
 }
@@ -218,20 +201,19 @@ impl Model for RowList {
 impl RowList {
     /// No rows.
     pub fn empty(alloc: Global) -> RowList
-        ensures { result ≡ [] }
+        ensures { result.list ≡ [] }
     {
         RowList {
             spans: Vec::new(alloc),
             cells: Vec::new(alloc),
             chunks: Vec::new(alloc),
             hints: Vec::new(alloc),
-            size: 0,
         }
     }
 
     /// One row, which has no entry.
     pub fn new(alloc: Global) -> Result<RowList, NoMemory>
-        ensures { IfOk result (λ rows. rows ≡ [] ∷ []) }
+        ensures { IfOk result (λ rows. rows.list ≡ [] ∷ []) }
     {
         let mut rows = RowList::empty(alloc);
         rows.push(&[], 0, false)?;
@@ -240,22 +222,29 @@ impl RowList {
 
     /// How many rows there are.
     pub fn count(&self) -> u32
-        ensures { length self.now < 2 ^ 32 → result ≡ length self.now }
+        ensures { length self.now.list < 2 ^ 32 → result ≡ length self.now.list }
     {
         self.spans.len().min(u32::MAX as usize) as u32
     }
 
     /// How many bytes the rows take.
     #[inline(always)]
-    pub fn size(&self) -> usize {
-        self.size
+    pub fn size(&self) -> usize
+        ensures { result ≡ self.now.size }
+    {
+        let short = self
+            .spans
+            .len()
+            .saturating_mul(32)
+            .saturating_add(self.cells.len().saturating_mul(4));
+        short.saturating_add(self.chunks.len().saturating_mul(256))
     }
 
     /// The row of a number that there is.
     #[inline(always)]
     pub fn row_at(&self, number: u32) -> Row<'_>
-        requires { number < length self.now }
-        ensures { result ≡ slice_index_or self.now number [] }
+        requires { number < length self.now.list }
+        ensures { result ≡ slice_index_or self.now.list number [] }
     {
         row_of(
             self.chunks.as_slice(),
@@ -267,7 +256,7 @@ impl RowList {
     /// The row of a number, and no entries past the end.
     #[inline(always)]
     pub fn row(&self, number: u32) -> Row<'_>
-        ensures { result ≡ slice_index_or self.now number [] }
+        ensures { result ≡ slice_index_or self.now.list number [] }
     {
         if number as usize >= self.spans.len() {
             return Row::of(&[]);
@@ -278,7 +267,7 @@ impl RowList {
     /// The entries of a row, if it has no chunks.
     #[inline(always)]
     fn whole(&self, number: u32) -> Option<&[u32]>
-        ensures { IfSome result (λ entries. entries.now ≡ slice_index_or self.now number []) }
+        ensures { IfSome result (λ entries. entries.now ≡ slice_index_or self.now.list number []) }
     {
         self.row(number).whole()
     }
@@ -286,8 +275,8 @@ impl RowList {
     /// The entry of a thread in the row of a number that there is, 0 where it has none.
     #[inline(always)]
     pub fn entry_at(&self, number: u32, t: u32) -> u32
-        requires { number < length self.now }
-        ensures { result ≡ slice_index_or (slice_index_or self.now number []) t 0 }
+        requires { number < length self.now.list }
+        ensures { result ≡ slice_index_or (slice_index_or self.now.list number []) t 0 }
     {
         let span = &self.spans[number as usize];
         if (t as usize) < span.whole {
@@ -302,7 +291,7 @@ impl RowList {
     /// The entry of a thread in a row, 0 where it has none.
     #[inline(always)]
     pub fn entry(&self, number: u32, t: u32) -> u32
-        ensures { result ≡ slice_index_or (slice_index_or self.now number []) t 0 }
+        ensures { result ≡ slice_index_or (slice_index_or self.now.list number []) t 0 }
     {
         if number as usize >= self.spans.len() {
             return 0;
@@ -313,7 +302,7 @@ impl RowList {
     /// Whether no entry of a row is above that of another one, which has as many at least.
     #[inline(always)]
     pub fn is_below(&self, number: u32, other: u32) -> bool
-        ensures { result ≡ true → (t : ℕ) → slice_index_or (slice_index_or self.now number []) t 0 ≤ slice_index_or (slice_index_or self.now other []) t 0 }
+        ensures { result ≡ true → (t : ℕ) → slice_index_or (slice_index_or self.now.list number []) t 0 ≤ slice_index_or (slice_index_or self.now.list other []) t 0 }
     {
         if let Some(entries) = self.whole(number) {
             if let Some(others) = self.whole(other) {
@@ -326,15 +315,15 @@ impl RowList {
     /// Whether no entry of a row is above that of a clock, which has as many at least.
     #[inline(always)]
     pub fn is_within(&self, number: u32, clock: &[u32]) -> bool
-        ensures { result ≡ true → (t : ℕ) → slice_index_or (slice_index_or self.now number []) t 0 ≤ slice_index_or clock.now t 0 }
+        ensures { result ≡ true → (t : ℕ) → slice_index_or (slice_index_or self.now.list number []) t 0 ≤ slice_index_or clock.now t 0 }
     {
         self.row(number).is_below(&Row::of(clock))
     }
 
     /// Whether there is a row of this number, with the same entries as one of other rows.
     pub fn is_copy(&self, number: u32, rows: &RowList, other: u32) -> bool
-        ensures in_range { result ≡ true → number < length self.now }
-        ensures same { result ≡ true → (t : ℕ) → slice_index_or (slice_index_or self.now number []) t 0 ≡ slice_index_or (slice_index_or rows.now other []) t 0 }
+        ensures in_range { result ≡ true → number < length self.now.list }
+        ensures same { result ≡ true → (t : ℕ) → slice_index_or (slice_index_or self.now.list number []) t 0 ≡ slice_index_or (slice_index_or rows.now.list other []) t 0 }
     {
         if number as usize >= self.spans.len() {
             return false;
@@ -351,7 +340,7 @@ impl RowList {
     /// Makes a clock the row of a number.
     #[inline(always)]
     pub fn copy_to(&self, number: u32, clock: &mut Vec<u32>) -> Result<(), NoMemory>
-        ensures { OnOk result (clock.new.items ≡ slice_index_or self.now number []) }
+        ensures { OnOk result (clock.new.items ≡ slice_index_or self.now.list number []) }
     {
         if let Some(entries) = self.whole(number) {
             set_length(clock, entries.len())?;
@@ -364,7 +353,7 @@ impl RowList {
     /// Raises each entry of a clock to that of a row.
     #[inline(always)]
     pub fn raise(&self, number: u32, clock: &mut Vec<u32>) -> Result<(), NoMemory>
-        ensures { OnOk result ((t : ℕ) → slice_index_or clock.new.items t 0 ≡ max (slice_index_or clock.old.items t 0) (slice_index_or (slice_index_or self.now number []) t 0)) }
+        ensures { OnOk result ((t : ℕ) → slice_index_or clock.new.items t 0 ≡ max (slice_index_or clock.old.items t 0) (slice_index_or (slice_index_or self.now.list number []) t 0)) }
     {
         if let Some(entries) = self.whole(number) {
             return raise_to(clock, entries);
@@ -375,20 +364,19 @@ impl RowList {
     /// Adds a row as a whole, and gives its number.
     #[inline(always)]
     fn push_whole(&mut self, entries: &[u32]) -> Result<u32, NoMemory>
-        ensures rows { OnOk result (self.new ≡ self.old ++ entries.now ∷ []) }
-        ensures number { length self.old < 2 ^ 32 → IfOk result (λ number. number ≡ length self.old) }
+        ensures rows { OnOk result (self.new.list ≡ self.old.list ++ entries.now ∷ []) }
+        ensures number { length self.old.list < 2 ^ 32 → IfOk result (λ number. number ≡ length self.old.list) }
     {
         let number = self.count();
         let span = add_whole(&mut self.cells, &Row::of(entries))?;
         self.spans.push(span)?;
-        self.size = bytes_of(self.spans.len(), self.cells.len(), self.chunks.len());
         Ok(number)
     }
 
     /// Adds a row, and gives its number. It has the chunks of the hints where they are equal.
     fn push_row(&mut self, row: &Row<'_>) -> Result<u32, NoMemory>
-        ensures rows { OnOk result (self.new ≡ self.old ++ row.now ∷ []) }
-        ensures number { length self.old < 2 ^ 32 → IfOk result (λ number. number ≡ length self.old) }
+        ensures rows { OnOk result (self.new.list ≡ self.old.list ++ row.now ∷ []) }
+        ensures number { length self.old.list < 2 ^ 32 → IfOk result (λ number. number ≡ length self.old.list) }
     {
         let number = self.count();
         let span = add_cells(
@@ -398,7 +386,6 @@ impl RowList {
             row,
         )?;
         self.spans.push(span)?;
-        self.size = bytes_of(self.spans.len(), self.cells.len(), self.chunks.len());
         Ok(number)
     }
 
@@ -423,8 +410,8 @@ impl RowList {
     #[cold]
     #[inline(never)]
     fn push_like(&mut self, row: &Row<'_>, like: u32) -> Result<u32, NoMemory>
-        ensures rows { OnOk result (self.new ≡ self.old ++ row.now ∷ []) }
-        ensures number { length self.old < 2 ^ 32 → IfOk result (λ number. number ≡ length self.old) }
+        ensures rows { OnOk result (self.new.list ≡ self.old.list ++ row.now ∷ []) }
+        ensures number { length self.old.list < 2 ^ 32 → IfOk result (λ number. number ≡ length self.old.list) }
     {
         self.hint(like)?;
         self.push_row(row)
@@ -434,8 +421,8 @@ impl RowList {
     /// number. Numbers count from 0.
     #[inline(always)]
     pub fn push(&mut self, entries: &[u32], like: u32, near: bool) -> Result<u32, NoMemory>
-        ensures rows { OnOk result (self.new ≡ self.old ++ entries.now ∷ []) }
-        ensures number { length self.old < 2 ^ 32 → IfOk result (λ number. number ≡ length self.old) }
+        ensures rows { OnOk result (self.new.list ≡ self.old.list ++ entries.now ∷ []) }
+        ensures number { length self.old.list < 2 ^ 32 → IfOk result (λ number. number ≡ length self.old.list) }
     {
         let most = if near { WHOLE } else { WHOLE_UNLIKE };
         if entries.len() > most {
@@ -446,8 +433,8 @@ impl RowList {
 
     /// Adds a row of other rows, which may share chunks with one of these, and gives its number.
     pub fn push_from(&mut self, rows: &RowList, number: u32, like: u32) -> Result<u32, NoMemory>
-        ensures rows { OnOk result (self.new ≡ self.old ++ slice_index_or rows.now number [] ∷ []) }
-        ensures number { length self.old < 2 ^ 32 → IfOk result (λ number. number ≡ length self.old) }
+        ensures rows { OnOk result (self.new.list ≡ self.old.list ++ slice_index_or rows.now.list number [] ∷ []) }
+        ensures number { length self.old.list < 2 ^ 32 → IfOk result (λ number. number ≡ length self.old.list) }
     {
         if let Some(entries) = rows.whole(number) {
             return self.push(entries, like, false);
@@ -473,27 +460,16 @@ impl RowList {
         Ok(())
     }
 
-    /// No rows, in the memory of these, which are gone then. There is room at once for half as many again as other ones:
-    /// memory that grows is moved, and takes as much again meanwhile.
-    fn emptied(self, other: &RowList) -> Result<RowList, NoMemory>
-        ensures { IfOk result (λ rows. rows ≡ []) }
+    /// No rows, with room at once for half as many again as other ones: memory that grows is moved, and takes as much
+    /// again meanwhile.
+    fn empty_for(alloc: Global, other: &RowList) -> Result<RowList, NoMemory>
+        ensures { IfOk result (λ rows. rows.list ≡ []) }
     {
-        let RowList {
-            mut spans,
-            mut cells,
-            mut chunks,
-            hints,
-            ..
-        } = self;
-        clear_for(&mut spans, other.spans.len())?;
-        clear_for(&mut cells, other.cells.len())?;
-        clear_for(&mut chunks, other.chunks.len())?;
         Ok(RowList {
-            spans,
-            cells,
-            chunks,
-            hints,
-            size: 0,
+            spans: Vec::with_capacity(alloc, half_more(other.spans.len()))?,
+            cells: Vec::with_capacity(alloc, half_more(other.cells.len()))?,
+            chunks: Vec::with_capacity(alloc, half_more(other.chunks.len()))?,
+            hints: Vec::new(alloc),
         })
     }
 
@@ -501,7 +477,7 @@ impl RowList {
     /// noted.
     #[inline(always)]
     fn keep(&mut self, rows: &RowList, number: u32, copies: &mut Vec<u32>) -> Result<(), NoMemory>
-        ensures { OnOk result (self.new ≡ self.old ++ slice_index_or rows.now number [] ∷ []) }
+        ensures { OnOk result (self.new.list ≡ self.old.list ++ slice_index_or rows.now.list number [] ∷ []) }
     {
         if let Some(entries) = rows.whole(number) {
             self.push_whole(entries)?;
@@ -513,12 +489,11 @@ impl RowList {
         self.note_copies(row.numbers(), copies)
     }
 
-    /// The rows with these numbers, in this order, in the memory of rows that aren't used any more. What was one chunk
-    /// is one again.
-    pub fn kept(&self, alloc: Global, unused: RowList, kept: &[u32]) -> Result<RowList, NoMemory>
-        ensures { IfOk result (AreKept self.now kept.now (length kept.now)) }
+    /// The rows with these numbers, in this order, in a memory of their own. What was one chunk is one again.
+    pub fn kept(&self, alloc: Global, kept: &[u32]) -> Result<RowList, NoMemory>
+        ensures { IfOk result (λ rows. AreKept self.now.list kept.now (length kept.now) rows.list) }
     {
-        let mut list = unused.emptied(self)?;
+        let mut list = RowList::empty_for(alloc, self)?;
         let mut copies = Vec::new(alloc);
         for b in 0..kept.len() {
             list.keep(self, kept[b], &mut copies)?;

@@ -31,7 +31,7 @@ impl Stamp {
     /// Whether a thread that knows a row, but for its own entry, knows the event of this stamp.
     #[inline(always)]
     pub fn is_known(self, thread: u32, rows: &RowList, row: u32) -> bool
-        ensures { IsTrue result ↔ KnowsStamp (slice_index_or rows.now row []) thread self }
+        ensures { IsTrue result ↔ KnowsStamp (slice_index_or rows.now.list row []) thread self }
     {
         self.thread == thread || self.time <= rows.entry(row, self.thread)
     }
@@ -41,8 +41,8 @@ impl Stamp {
 /// to it.
 #[inline(always)]
 pub fn is_joined(rows: &RowList, known: u32, stamp: Stamp) -> bool
-    ensures { result ≡ true → (slice_index_or (slice_index_or rows.now stamp.row []) stamp.thread 0 ≡ stamp.time)
-        × ((t : ℕ) → slice_index_or (slice_index_or rows.now known []) t 0 ≤ slice_index_or (slice_index_or rows.now stamp.row []) t 0) }
+    ensures { result ≡ true → (slice_index_or (slice_index_or rows.now.list stamp.row []) stamp.thread 0 ≡ stamp.time)
+        × ((t : ℕ) → slice_index_or (slice_index_or rows.now.list known []) t 0 ≤ slice_index_or (slice_index_or rows.now.list stamp.row []) t 0) }
 {
     if rows.entry(stamp.row, stamp.thread) != stamp.time {
         return false;

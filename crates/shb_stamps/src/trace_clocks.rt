@@ -136,7 +136,7 @@ pub fn row_before(clocks: &Clocks, linked: &Linked<'_>, e: u32) -> u32
     requires in_range { e < length linked.now.events.now }
     requires before { IsBefore linked.now.events.now e false clocks.now }
     ensures { (t : ℕ) → thread_at linked.now.events.now e ≡ Some t
-        → IsRowFor linked.now.events.now clocks.now.rows t (λ k. BelowPred linked.now.events.now k e) result }
+        → IsRowFor linked.now.events.now clocks.now.rows.list t (λ k. BelowPred linked.now.events.now k e) result }
 {
     clocks.row_number(linked.events.thread(e))
 }
@@ -146,7 +146,7 @@ pub fn row_before(clocks: &Clocks, linked: &Linked<'_>, e: u32) -> u32
 pub fn count_below(linked: &Linked<'_>, rows: &RowList, row: u32, e: u32, t: u32) -> u32
     requires in_range { e < length linked.now.events.now }
     requires row { (u : ℕ) → thread_at linked.now.events.now e ≡ Some u
-        → IsRowFor linked.now.events.now rows.now u (λ k. BelowPred linked.now.events.now k e) row }
+        → IsRowFor linked.now.events.now rows.now.list u (λ k. BelowPred linked.now.events.now k e) row }
     ensures { IsBelowPredCount linked.now.events.now t e result }
 {
     if t == linked.events.thread(e) {
@@ -166,7 +166,7 @@ pub fn raise_counts(
 ) -> Result<(), NoMemory>
     requires in_range { e < length linked.now.events.now }
     requires row { (u : ℕ) → thread_at linked.now.events.now e ≡ Some u
-        → IsRowFor linked.now.events.now rows.now u (λ k. BelowPred linked.now.events.now k e) row }
+        → IsRowFor linked.now.events.now rows.now.list u (λ k. BelowPred linked.now.events.now k e) row }
     ensures { OnOk result (AreRaisedCounts linked.now.events.now e counts.old.items counts.new.items) }
 {
     let size = counts.len();

@@ -5,7 +5,7 @@ use Rattle.shb_stamps.proofs.clocks.row_after.Goals as goal
 
 pub returns-then-told : goal.returns-then-told
 returns-then-told c = record {
-  more = more_same c.args.rows.now;
+  more = more_same c.args.rows.now.list;
   few = omega arith;
   knew = λ known. refl;
   learned = λ unknown. absurd (unknown (c.is_known-told.ensures.0 c.if-told.true));
@@ -16,13 +16,13 @@ pub returns-then-shared : goal.returns-then-shared
 returns-then-shared c =
     let found = c.is_joined-shared.ensures c.if-shared.true in
     record {
-      more = more_same c.args.rows.now;
+      more = more_same c.args.rows.now.list;
       few = omega arith;
       knew = λ known. absurd (let passing = c.is_known-told.ensures.1 known in let fails_it = c.if-told.false in (let f : ⊥ = cc in f));
       learned = λ unknown few low. (
         low,
         record {
-          clock = get_or c.args.rows.now c.args.source.row [];
+          clock = get_or c.args.rows.now.list c.args.source.row [];
           clock_is = record { there = found.0; others = λ k ne. refl };
           each = inl (λ t. (let le = found.1 t in omega (arith, le)));
         },
@@ -32,13 +32,13 @@ returns-then-shared c =
 
 pub returns : goal.returns
 returns c =
-    let rows_are : c.push.new.self ≡ c.args.rows.now ++ c.join.new.clock.items ∷ [] = c.in_ok-row.ensures.rows ∙ ap (λ (row : List ℕ). c.args.rows.now ++ row ∷ []) c.as_slice.ensures.value in
+    let rows_are : c.push.new.self.list ≡ c.args.rows.now.list ++ c.join.new.clock.items ∷ [] = c.in_ok-row.ensures.rows ∙ ap (λ (row : List ℕ). c.args.rows.now.list ++ row ∷ []) c.as_slice.ensures.value in
     record {
-      more = more_push c.args.rows.now c.push.new.self c.join.new.clock.items rows_are;
-      few = (let size = ap length rows_are ∙ length_push c.args.rows.now c.join.new.clock.items in omega (arith, size));
+      more = more_push c.args.rows.now.list c.push.new.self.list c.join.new.clock.items rows_are;
+      few = (let size = ap length rows_are ∙ length_push c.args.rows.now.list c.join.new.clock.items in omega (arith, size));
       knew = λ known. absurd (let passing = c.is_known-told.ensures.1 known in let fails_it = c.if-told.false in (let f : ⊥ = cc in f));
       learned = λ unknown few low.
-          let pushed = row_pushed c.args.rows.now c.push.new.self c.join.new.clock.items c.in_ok-row.row rows_are (c.in_ok-row.ensures.number few) in (
+          let pushed = row_pushed c.args.rows.now.list c.push.new.self.list c.join.new.clock.items c.in_ok-row.row rows_are (c.in_ok-row.ensures.number few) in (
             pushed.0,
             record {
               clock = c.set_clock.new.clock.items;
@@ -50,6 +50,6 @@ returns c =
             },
           );
       renames = λ renames few.
-          let pushed = row_pushed c.args.rows.now c.push.new.self c.join.new.clock.items c.in_ok-row.row rows_are (c.in_ok-row.ensures.number few) in
-          (pushed.0, subst (IsPut 0 c.args.source.thread c.args.source.time (get_or c.args.rows.now c.args.source.row [])) (sym (pushed.1 ∙ c.in_ok-renames.ensures.same renames)) c.in_ok-set_clock.ensures);
+          let pushed = row_pushed c.args.rows.now.list c.push.new.self.list c.join.new.clock.items c.in_ok-row.row rows_are (c.in_ok-row.ensures.number few) in
+          (pushed.0, subst (IsPut 0 c.args.source.thread c.args.source.time (get_or c.args.rows.now.list c.args.source.row [])) (sym (pushed.1 ∙ c.in_ok-renames.ensures.same renames)) c.in_ok-set_clock.ensures);
     }

@@ -5,7 +5,7 @@ use Rattle.shb_stamps.proofs.listed_rows.listed_rows.Goals as goal
 
 pub loop-at-init : goal.loop-at-init
 loop-at-init c = record {
-  before = c.in_ok-clocks.ensures c.args.linked.now.events.now false;
+  before = c.in_ok-clocks.ensures.before c.args.linked.now.events.now false;
   passed = λ i low lt. omega arith;
   kept = c.new-kept.ensures c.args.linked.now.events.now c.args.events.now;
 }

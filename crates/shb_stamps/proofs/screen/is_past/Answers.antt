@@ -14,6 +14,6 @@ returns-then-epoch-thread c = λ trace n all disciplined before of_n is. past_wh
 pub returns-then-epoch-below : goal.returns-then-epoch-below
 returns-then-epoch-below c = λ trace n all disciplined before of_n is.
     let clocks = c.args.clocks.now in
-    let row = row_at trace disciplined n c.args.thread all clocks.rows clocks.current.items clocks.locks.items clocks.variables.items of_n before (get_or clocks.current.items c.args.thread 0) refl in
+    let row = row_at trace disciplined n c.args.thread all clocks.rows.list clocks.current.items clocks.locks.items clocks.variables.items of_n before (get_or clocks.current.items c.args.thread 0) refl in
     past_where trace n c.args.epoch (sym c.is_unknown-lost.ensures ∙ c.if-lost.false)
     (λ m lt own. (row.front.exact c.args.epoch.thread m own.thread_is c.if-epoch-thread.false).0 (let known = c.known_of-below.ensures in let same = own.time_is in let le = c.if-epoch-below.true in omega (arith, known, same, le)))

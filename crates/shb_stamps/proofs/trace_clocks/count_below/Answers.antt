@@ -15,4 +15,4 @@ returns c =
     let trace : List Event = c.args.linked.now.events.now in
     let u : ℕ = c.thread.result in
     let before = c.requires.row u c.thread.ensures in
-    count_other trace trace c.args.rows.now c.args.e u c.args.t c.args.row c.entry_at.result _ refl before refl c.if-t-thread.false c.entry_at.ensures
+    count_other trace trace c.args.rows.now.list c.args.e u c.args.t c.args.row c.entry_at.result _ refl before refl c.if-t-thread.false c.entry_at.ensures

@@ -9,9 +9,9 @@ keep-requires-clause-few c = grind (arith, common_steps, rising_above, c.require
 pub returns : goal.returns
 returns c = record {
   few = (let few = c.requires.kept.few in let more = c.in_ok-number.ensures.few in omega (arith, few, more));
-  before = listed_push c.args.linked.now.events.now c.args.events.now c.keep.new.rows c.args.at c.in_ok-number.number c.args.self.now.before.items c.push.new.self.items
-      (λ e t at of_e. subst (λ (m : ℕ). IsRowFor c.args.linked.now.events.now c.keep.new.rows t (λ k. BelowPred c.args.linked.now.events.now k m) c.in_ok-number.number) at
+  before = listed_push c.args.linked.now.events.now c.args.events.now c.keep.new.rows.list c.args.at c.in_ok-number.number c.args.self.now.before.items c.push.new.self.items
+      (λ e t at of_e. subst (λ (m : ℕ). IsRowFor c.args.linked.now.events.now c.keep.new.rows.list t (λ k. BelowPred c.args.linked.now.events.now k m) c.in_ok-number.number) at
       (c.in_ok-number.ensures.row t (subst (λ (m : ℕ). thread_at c.args.linked.now.events.now m ≡ Some t) (sym at) of_e)))
       c.in_ok-push.ensures.items
-      (listed_more c.args.linked.now.events.now c.args.events.now c.args.self.now.rows c.keep.new.rows c.args.at c.args.self.now.before.items c.in_ok-number.ensures.more c.requires.kept.before);
+      (listed_more c.args.linked.now.events.now c.args.events.now c.args.self.now.rows.list c.keep.new.rows.list c.args.at c.args.self.now.before.items c.in_ok-number.ensures.more c.requires.kept.before);
 }

@@ -1,6 +1,19 @@
 use Rattle.std.proofs.Common.{◌++◌, ◌∷◌, [], ap, ◌∙◌, List, ℕ}
-use Rattle.shb_stamps.proofs.ChunkLemmas.{inside_push, longer_same, rows_push}
+use Rattle.shb_stamps.specs.Chunks.{Rows}
+use Rattle.shb_stamps.proofs.ChunkLemmas.{all_grown, inside_push, longer_same, rows_push}
 use Rattle.shb_stamps.proofs.row_list.RowList.push_whole.Goals as goal
+
+pub invariant_of-self : goal.invariant_of-self
+invariant_of-self c = (
+  c.self.invariant.0,
+  all_grown c.self.inside.chunks.items _ c.self.inside.cells.items _ (longer_same c.self.inside.chunks.items) c.add_whole.ensures.longer c.self.inside.spans.items c.self.invariant.1,
+)
+
+pub invariant_of-self-in_err-push : goal.invariant_of-self-in_err-push
+invariant_of-self-in_err-push c = rw c.in_err-push.ensures.items (
+  c.self.invariant.0,
+  all_grown c.self.inside.chunks.items _ c.self.inside.cells.items _ (longer_same c.self.inside.chunks.items) c.add_whole.ensures.longer c.self.inside.spans.items c.self.invariant.1,
+)
 
 pub invariant_of-self-2 : goal.invariant_of-self-2
 invariant_of-self-2 c = (
@@ -11,4 +24,4 @@ invariant_of-self-2 c = (
 pub returns-clause-rows : goal.returns-clause-rows
 returns-clause-rows c =
     rows_push c.self.inside.chunks.items _ c.self.inside.cells.items _ (longer_same c.self.inside.chunks.items) c.add_whole.ensures.longer c.self.inside.spans.items _ c.in_ok-span.span c.args.entries.now c.self.invariant.1 c.in_ok-push.ensures.items (c.in_ok-span.ensures.row c.self.inside.chunks.items ∙ c.of.ensures)
-    ∙ ap (λ (rows : List (List ℕ)). rows ++ c.args.entries.now ∷ []) c.self.view_is
+    ∙ ap (λ (rows : List (List ℕ)). rows ++ c.args.entries.now ∷ []) (ap (λ (r : Rows). r.list) c.self.view_is)
