@@ -1,6 +1,6 @@
 //! The accesses that are kept of a variable, by thread and kind.
 
-ghost use Rattle.std.specs.Prelude.{All, AllPairs, ◌≡◌, ◌<◌, ◌≤◌, ◌+◌, ◌++◌, ◌∷◌, [], ℕ, Bool, true, List, Box, IfOk, IfSome, None, OnOk, Some, filter, length, slice_get};
+ghost use Rattle.std.specs.Prelude.{All, AllPairs, ◌*◌, ◌⊎◌, max, ◌≡◌, ◌<◌, ◌≤◌, ◌+◌, ◌++◌, ◌∷◌, [], ℕ, Bool, true, List, Box, IfOk, IfSome, None, OnOk, Some, filter, length, slice_get};
 ghost use Rattle.shb_lines.specs.declared.event.Event.{Event};
 ghost use Rattle.shb_nearest.specs.Classes.{AreClasses};
 ghost use Rattle.shb_nearest.specs.Found.{IsFoundAccess};
@@ -212,7 +212,9 @@ impl Group {
         variable: u32,
         access: KeptAccess,
     ) -> Result<(), NoMemory>
-        ensures { OnOk result (HasKept access self.old self.new) }
+        ensures kept { OnOk result (HasKept access self.old self.new) }
+        ensures room { OnOk result (length self.new.kept.items ≤ self.new.most) }
+        ensures most { OnOk result ((self.new.most ≡ self.old.most) ⊎ (self.new.most ≤ max 64 (2 * length self.new.kept.items))) }
     {
         self.kept.push(access)?;
         if self.kept.len() <= self.most {

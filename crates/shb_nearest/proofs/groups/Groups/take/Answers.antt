@@ -32,7 +32,7 @@ returns-clause-groups c trace spots n are is past =
     let mid = c.note.new.self.each.items in
     let at_old = slice_get_read mid (length mid) c.in_ok-at.at c.in-Some.group.now refl (slice_get_within mid c.in_ok-at.at found.group found.there) c.in-Some.ensures.value in
     noted trace spots c.args.variable c.args.late.event (access_in c.args.late) refl is.own (record { event = c.args.late.event; time = c.args.late.time; spot = (access_in c.args.late).spot; site = c.in_ok-site.site }) refl refl is.time_is
-    n past c.args.self.now.each.items mid c.in_ok-at.at c.in-Some.group.now c.keep.new.self are found at_old c.in_ok-keep.ensures
+    n past c.args.self.now.each.items mid c.in_ok-at.at c.in-Some.group.now c.keep.new.self are found at_old c.in_ok-keep.ensures.kept
 
 pub returns-then-len-le-ACCESSES_IN_TURN-clause-sites : goal.returns-then-len-le-ACCESSES_IN_TURN-clause-sites
 returns-then-len-le-ACCESSES_IN_TURN-clause-sites c by_variable entries are =
@@ -51,5 +51,5 @@ returns-clause-sites c by_variable entries are =
     let at_old = slice_get_read mid (length mid) c.in_ok-at.at c.in-Some.group.now refl (slice_get_within mid c.in_ok-at.at found.group found.there) c.in-Some.ensures.value in
     let same = group_same found.group c.in-Some.group.now (sym found.there ∙ at_old) in
     sites_kept by_variable c.args.variable entries c.note.new.self _ c.in_ok-at.at c.args.late (record { event = c.args.late.event; time = c.args.late.time; spot = (access_in c.args.late).spot; site = c.in_ok-site.site }) c.in-Some.group.now c.keep.new.self refl refl at_old
-    (ap (λ (g : Group). g.writes) (sym same) ∙ found.own.writes_is) refl refl c.in_ok-keep.ensures c.in_ok-site.ensures.noted
+    (ap (λ (g : Group). g.writes) (sym same) ∙ found.own.writes_is) refl refl c.in_ok-keep.ensures.kept c.in_ok-site.ensures.noted
     (c.in_ok-site.ensures.sites by_variable c.args.variable entries (sites_found by_variable c.args.variable entries c.args.self.now c.group_at.new.self c.args.late.thread c.args.late.writes c.in_ok-at.at c.in_ok-at.ensures.sites c.in_ok-at.ensures.group are))
