@@ -36,7 +36,7 @@ fn list_kept<R: Threads + Wait + Sync, K: Sink, P: Gate + Sync, W>(
     requires { (events : List Event) × MayList K.failure_count events writer.old (map pair_in races.now) }
     ensures { HasListed alone K.taken K.failure_count writer.old (map pair_in races.now) result writer.new }
 {
-    let pieces = pieces_of(alloc, races, writer.written)?;
+    let pieces = pieces_of(alloc, races, writer.written, plan.workers)?;
     let job = TextJob::new(writer.trace, pieces.as_slice());
     let mut taker = TextWriter {
         sink: &mut *writer.sink,

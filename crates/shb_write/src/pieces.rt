@@ -6,7 +6,7 @@ ghost use Rattle.shb_lists.specs.Listed.{pair_in};
 ghost use Rattle.shb_write.specs.Texts.{HasText, piece_text, text_of};
 
 use crate::plan::BlockPlan;
-use shb_fan::{Gate, Job, gather};
+use shb_fan::{Gate, Job, Workers, gather};
 use shb_io::NoMemory;
 use shb_lines::Pair;
 use shb_lists::{ListedRace, pairs_of};
@@ -19,27 +19,28 @@ use std::thread::Threads;
 /// How many races a piece has at most. The number is this project's own.
 const PIECE_LENGTH: usize = 256;
 
-/// Neighbours in a list, races of one variable, and how many races come before them.
+/// Neighbours in a list of races, and how many races come before them.
 #[derive(Drop)]
 pub(crate) struct Piece<'r> {
     pub(crate) races: &'r [ListedRace],
     pub(crate) before: u64,
 }
 
-/// Where the piece ends that starts at an index: with the last race of its variable, or when it is full.
-fn piece_end(races: &[ListedRace], start: usize) -> usize
-    requires { start < length races.now }
+/// How many races a piece of so many has: an eighth of each worker's share, so that a slow piece holds up no other one.
+fn piece_length(races: usize, workers: Workers) -> usize
+    ensures { 0 < result }
+{
+    (races / (8 * workers.get() as usize)).clamp(1, PIECE_LENGTH)
+}
+
+/// Where the piece of at most so many races ends that starts at an index.
+fn piece_end(races: &[ListedRace], start: usize, most: usize) -> usize
+    requires more { start < length races.now }
+    requires some { 0 < most }
     ensures more { start < result }
     ensures within { result ≤ length races.now }
 {
-    let variable = races[start].variable;
-    let most = races.len().min(start.saturating_add(PIECE_LENGTH));
-    for end in start + 1..most {
-        if races[end].variable != variable {
-            return end;
-        }
-    }
-    most
+    races.len().min(start.saturating_add(most))
 }
 
 /// The races from one index up to another as a piece, if so many others come before all of them.
@@ -56,11 +57,12 @@ fn piece_at(races: &[ListedRace], start: usize, end: usize, before: u64) -> Piec
     }
 }
 
-/// Cuts races, of which so many others come before, into pieces.
+/// Cuts races, of which so many others come before, into pieces for workers.
 pub(crate) fn pieces_of<'r>(
     alloc: Global,
     races: &'r [ListedRace],
     before: u64,
+    workers: Workers,
 ) -> Result<Vec<Piece<'r>>, NoMemory>
     requires room { length races.now + before < 2 ^ 64 }
     ensures races { IfOk result (λ pieces. flat_map (λ piece. piece.races.now) pieces.items ≡ races.now) }
@@ -68,10 +70,11 @@ pub(crate) fn pieces_of<'r>(
         → IfOk result (λ pieces. All (λ piece. HasText trace piece.before (map pair_in piece.races.now)) pieces.items) }
     ensures texts { (trace : TraceData) → IfOk result (λ pieces. flat_map (piece_text trace) pieces.items ≡ text_of trace before (map pair_in races.now)) }
 {
+    let most = piece_length(races.len(), workers);
     let mut pieces = Vec::new(alloc);
     let mut start = 0;
     while start < races.len() {
-        let end = piece_end(races, start);
+        let end = piece_end(races, start, most);
         pieces.push(piece_at(races, start, end, before))?;
         start = end;
     }
@@ -131,7 +134,7 @@ fn joined(alloc: Global, parts: &[Vec<Pair>]) -> Result<Vec<Pair>, NoMemory>
     Ok(pairs)
 }
 
-/// Kept races as pairs, made by workers: pieces of at most 256 races of one variable, each after its gate.
+/// Kept races as pairs, made by workers: pieces of at most 256 races, each after its gate.
 pub(crate) fn pairs_in_pieces<R: Threads + Wait + Sync, P: Gate + Sync, W>(
     rt: &R,
     alloc: Global,
@@ -141,7 +144,7 @@ pub(crate) fn pairs_in_pieces<R: Threads + Wait + Sync, P: Gate + Sync, W>(
     requires { length races.now < 2 ^ 64 }
     ensures { IfOk result (λ pairs. map ends pairs.items ≡ map pair_in races.now) }
 {
-    let pieces = pieces_of(alloc, races, 0)?;
+    let pieces = pieces_of(alloc, races, 0, plan.workers)?;
     let job = PairsJob::new(pieces.as_slice());
     let parts = gather(rt, alloc, &job, plan.pair, plan.workers)?;
     joined(alloc, parts.as_slice())
