@@ -11,6 +11,9 @@ from shb_common.parts import part_of_page
 from shb_common.words import counted, in_html
 
 HEADS = "File", "Bugs", "Places", "Runs"
+# nothing is loaded or run, whatever a name says
+POLICY = ('<meta http-equiv="Content-Security-Policy" content="default-src \'none\'; base-uri \'none\'; '
+          'form-action \'none\'; style-src \'unsafe-inline\'">')
 NO_BUG = "<p>No place with a race was found.</p>"
 
 # `pages` are links by the names of processes, the largest group's first; `runs` are the processes with it.
@@ -20,7 +23,7 @@ Bug = collections.namedtuple("Bug", "name headline remedy file places pages runs
 def index(title, document):
     style = part_of_page("page.css")
     head = (f'<!doctype html>\n<html lang="en"><meta charset="utf-8">\n'
-            f'<meta name="viewport" content="width=device-width, initial-scale=1">\n'
+            f'<meta name="viewport" content="width=device-width, initial-scale=1">\n{POLICY}\n'
             f"<title>Data races of {in_html(title)}</title><style>{style}</style>\n")
     summary = document["summary"]
     body = overview(document) if document["places"] else NO_BUG

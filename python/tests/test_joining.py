@@ -60,6 +60,7 @@ class Joining(farm.side_by_side.Case):
         self.assertEqual((self.folder / "all/unknown.places").read_bytes(), b"a\tb\tx\nc\td\ty\n")
         page = (self.folder / "all/index.html").read_text()
         self.assertIn("2 bugs in 1 file: 2 places with races", page)
+        self.assertIn("content=\"default-src 'none'; ", page)
         self.assertIn('href="../one/run1.7.html#group-1"', page)
         self.assertIn('href="../one/run1.7.html#group-2"', page)
 
