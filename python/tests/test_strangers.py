@@ -148,7 +148,7 @@ class Facts(farm.Case):
         answer = self.farm("--known", old / "unknown.places")
         self.assertEqual({row[4]: row[1] for row in self.table("places.tsv")},
                          {"race.std": "known", "moved.std": "known", "new.std": "unknown"})
-        [gone] = [line for line in answer.err.splitlines() if "matched nothing" in line]
+        [gone] = [line for line in answer.err.splitlines() if "no race matched" in line]
         self.assertIn("g.c:1", gone)
 
     def test_an_earlier_result_that_is_none(self):
@@ -158,7 +158,7 @@ class Facts(farm.Case):
                            (b"[1]", "a part of it is missing"), (b"\xff", none),
                            (b'{"form": "shb-places", "version": 2, "places": []}',
                             "it isn't of form shb-places, version 1"), (b"[" * 100_000, "a part of it"),
-                           (b'{"form": "shb-places", "version": 1, "places": [{"accesses": 3}]}',
+                           (b'{"form": "shb-places", "version": 1, "places": [{"state": 3}]}',
                             "a part of it is missing")):
             path.write_bytes(text)
             with self.assertRaises(Refused) as refused:
