@@ -62,7 +62,8 @@ OTHERS = {
                                               "`parse`",
     ("shb_fan/src/streaming.rt", "workers.get()"): "at most 64 by its type",
     ("shb_numbers/src/dense.rt", "at"): "the word of a number of 32 bits, so below 2^26",
-    ("shb_stamps/src/row_list.rt", "room"): "half as many again as there are rows, or their cells or chunks",
+    **{("shb_stamps/src/row_list.rt", f"half_more(other.{items}.len())"): "half as many again as there are"
+       for items in ("spans", "cells", "chunks")},
     ("shb_witness/src/threads.rt", "end"): "the sum of how many events each thread has",
 }
 MOST_NUMBER, MOST_NAMED = 65_536, 2**32 - 1
