@@ -202,8 +202,8 @@ class Tables(farm.Case):
     def test_a_program_that_is_not_there(self):
         said = (rf"^there is no analyser at {self.folder}/bin/shb; .* `make build` makes it, and SHB=PROGRAM "
                 r"names another$")
-        with mock.patch.object(command, "ANALYSER",
-                               f"{self.folder}/bin/shb"), self.assertRaisesRegex(Refused, said):
+        with mock.patch.object(command, "ANALYSER", f"{self.folder}/bin/shb"), \
+             mock.patch.dict(os.environ, SHB=""), self.assertRaisesRegex(Refused, said):
             command.pass_of(command.arguments([str(self.traces), str(self.out)]), "room")
 
     def test_an_engine_that_is_not_there(self):
