@@ -9,7 +9,7 @@ import stat
 from shb_common.words import Refused
 
 HEADER_BYTES, ENTRY_BYTES, MOST_BYTES = 4096, 8, 128 << 20
-HEADER = re.compile(rb"shb-turns 4\ncommand (?P<command>[^\n]*)\n(?:whole (?P<count>[0-9a-f]+) "
+HEADER = re.compile(rb"shb-turns 5\ncommand (?P<command>[^\n]*)\n(?:whole (?P<count>[0-9a-f]+) "
                     rb"(?P<sum>[0-9a-f]+)\n)?\0*")
 List = collections.namedtuple("List", "content command")
 
@@ -21,7 +21,7 @@ def read(path):
             content = file.read(MOST_BYTES + 1) if stat.S_ISREG(os.fstat(file.fileno()).st_mode) else b""
     except OSError as fault:
         raise Refused(f"{path}: {fault.strerror}") from None
-    if re.match(rb"shb-turns (?!4\n)\d+\n", content):
+    if re.match(rb"shb-turns (?!5\n)\d+\n", content):
         raise Refused(f"{path} is not followed: another version of the recorder wrote it")
     header, entries = HEADER.fullmatch(content[:HEADER_BYTES]), content[HEADER_BYTES:]
     if not header or not HEADER_BYTES <= len(content) <= MOST_BYTES or len(entries) % ENTRY_BYTES:
