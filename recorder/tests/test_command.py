@@ -422,7 +422,7 @@ int main(int count, char **words) {
     def test_the_program_has_the_descriptors_that_are_passed_on(self):
         path = self.folder / "passed on"
         with open(path, "wb") as file:
-            script = f"echo there >&{file.fileno()}; exec {self.program()} 0"
+            script = f"echo there > /proc/self/fd/{file.fileno()}; exec {self.program()} 0"
             ran = recorder.call(recorder.COMMAND, "sh", "-c", script, cwd=self.folder,
                                 env={**os.environ, "SHB": str(recorder.SHB)}, pass_fds=[file.fileno()])
         self.assertEqual((ran.returncode, path.read_bytes()), (0, b"there\n"), ran.stderr)
