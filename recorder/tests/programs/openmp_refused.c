@@ -15,14 +15,21 @@ void *__libc_calloc(size_t k, size_t n) {
     return p ? memset(p, 0, k * n) : 0;
 }
 
-static void *idle(void *x) { return x; }
+/* It has begun, for which the C library takes memory, before any is refused. */
+static pthread_barrier_t begun;
+static void *idle(void *x) {
+    pthread_barrier_wait(&begun);
+    return x;
+}
 
 int main(int count, char **words) {
     long sum = 0, done = 0;
     pthread_t t;
 #pragma omp parallel num_threads(3)                          /* has the library start its threads */
     sum = 0;
+    pthread_barrier_init(&begun, 0, 2);
     pthread_create(&t, 0, idle, 0);
+    pthread_barrier_wait(&begun);
     left = atoi(getenv("REFUSED"));
     if (count > 1) {
         void *here = __tsan_get_current_fiber(), *fiber = __tsan_create_fiber(0);
