@@ -6,6 +6,7 @@ import pathlib
 import re
 import shutil
 import subprocess
+import sys
 import tempfile
 import threading
 
@@ -30,12 +31,21 @@ def call(*words, **how):
     return subprocess.run([str(word) for word in words], capture_output=True, timeout=SECONDS, **how)
 
 
+MOST_MEMORY = ("import resource, subprocess, sys; subprocess.run(sys.argv[1:], stdout=-3, check=True); "
+               "print(resource.getrusage(resource.RUSAGE_CHILDREN).ru_maxrss)")
+
+
 def must(answer):
     """The answer of a command that has to succeed."""
     if answer.returncode:
         raise AssertionError(f"{answer.args}: status "
                              f"{answer.returncode}\n{answer.stderr.decode(errors='replace')}")
     return answer
+
+
+def most_memory(*words, **more):
+    """The most bytes that a program takes, started by a process that takes little itself."""
+    return int(must(call(sys.executable, "-c", MOST_MEMORY, *words, **more)).stdout) << 10
 
 
 def put_commands(folder):

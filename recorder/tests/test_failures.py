@@ -5,13 +5,8 @@ import re
 import resource
 import signal
 import subprocess
-import sys
 
 import recorder
-
-# Runs a program from a process that takes little memory itself, and prints the most that it took.
-MOST_MEMORY = ("import resource, subprocess, sys; subprocess.run(sys.argv[1:], check=True); "
-               "print(resource.getrusage(resource.RUSAGE_CHILDREN).ru_maxrss)")
 
 
 class Failures(recorder.Case):
@@ -158,10 +153,9 @@ class Failures(recorder.Case):
         recorder.must(recorder.call("gcc", "-w", "-g", "-O1", "-DSTEPS=3000000", "-fsanitize=thread",
                                     "-pthread", f"-B{recorder.BUILT}/lib/",
                                     recorder.PROGRAMS / "long_run.c", "-o", program))
-        ran = recorder.must(recorder.call(sys.executable, "-c", MOST_MEMORY, program,
-                                          env=recorder.settings(record, SHB_CELLS="0")))
+        most = recorder.most_memory(program, env=recorder.settings(record, SHB_CELLS="0"))
         self.assertGreater(record.stat().st_size, 160 << 20)
-        self.assertLess(int(ran.stdout) << 10, record.stat().st_size // 2)
+        self.assertLess(most, record.stat().st_size // 2)
         recorder.must(recorder.convert(record))
 
     def test_loops_that_wait_do_not_reach_it(self):

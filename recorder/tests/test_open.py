@@ -1,11 +1,9 @@
 """What `shb-std -r` leaves out has no race: records drawn at random have the same places with it and without.
 Of a variable that races each thread's accesses at each place are there."""
 
-import os
 import random
 import re
 import shutil
-import subprocess
 
 import recorder
 from analysis import Step
@@ -200,10 +198,7 @@ class Limits(recorder.Case):
         self.assertLess(int(re.search(rb"Collected : (\d+)", ran.stderr)[1]), 100_000_000)
         updates = b"".join(entry(t, "ATOMIC_UPDATE", 0x5000, 0x300, 4 | 3 << 5) for t in range(1, 801))
         record.write_bytes(HEADER + forks + entry(0, "FENCE", 0, 0x299, 2) + updates * 100)
-        with subprocess.Popen([recorder.BUILT / "shb-std", "--list", record], stdout=-3, stderr=-3) as ran:
-            _, ran.returncode, used = os.wait4(ran.pid, 0)
-        self.assertEqual(ran.returncode, 0)
-        self.assertLess(used.ru_maxrss, 60_000)
+        self.assertLess(recorder.most_memory(recorder.BUILT / "shb-std", "--list", record), 60 << 20)
 
     def test_a_few_records_that_take_much_work(self):
         """Each takes what many threads gave, goes through many functions, or looks through many locks."""
