@@ -2,6 +2,7 @@
 
 import json
 import os
+import re
 
 from shb_common.files import open_regular
 from shb_common.parts import installed
@@ -14,6 +15,12 @@ NAME, MOST_BYTES = "places.json", 1 << 30
 def text(name):
     """A name of a trace. Bytes that aren't UTF-8 are written as `\\xff`."""
     return name.decode("utf-8", "backslashreplace")
+
+
+def name_of(text):
+    """The name that was written as this text."""
+    return re.sub(rb"\\x([89a-f][0-9a-f])", lambda found: bytes([int(found[1], 16)]),
+                  text.encode("utf-8", "surrogatepass"))
 
 
 def access(name, location, in_trace, event=None, read=None):

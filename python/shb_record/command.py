@@ -115,8 +115,8 @@ def add_runs(parser):
                         "if standard input is a file or pipe that isn't at its end). What they write is in "
                         "files first, and printed run by run")
     how_often.add_argument("--join", action="store_true",
-                           help="make one of several folders of results, which PROGRAM and its words name, "
-                           "as of several machines, in DIR (places.json, unknown.places, index.html)")
+                           help="make one of several folders of results, or their places.json, which PROGRAM "
+                           "and its words name, as of several machines: the tables and index.html, in DIR")
     how_often.add_argument("--live", action="store_true",
                            help="show each place while the program runs, once. "
                            "The run is recorded in segments. If they come faster than they can be analysed, "

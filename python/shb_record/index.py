@@ -4,8 +4,9 @@ It is made of what places.json has. A bug is the places of a group, and in other
 variables."""
 
 import collections
+import itertools
 
-from shb_common import known
+from shb_common import known, result, sarif
 from shb_common.locations import parts_of
 from shb_common.parts import part_of_page
 from shb_common.words import counted, in_html
@@ -107,10 +108,14 @@ def bugs(document):
     return sorted(found, key=lambda bug: (bug.rank, -bug.places, bug.name))
 
 
+def shown(entry):
+    """The processes whose pages have a place, each with the number of its group."""
+    return entry.get("pages", [(entry["process"], entry["group"])] if "group" in entry else [])
+
+
 def keys_of(entry):
     """What a place shares with others of its bug: its group, and variables with a name that lasts."""
-    if "group" in entry:
-        yield "group", entry["group"]
+    yield from (("group", group) for _, group in shown(entry))
     for variable in entry["variables"]:
         name = known.lasting(variable["name"].encode("utf-8", "surrogatepass"))
         if b"*" not in name:
@@ -121,9 +126,10 @@ def ways_of(groups):
     """By the number of each group its link: to its page, where groups are counted from one."""
     seen, ways = collections.Counter(), {}
     for number, group in enumerate(groups, 1):
-        trace = group.get("folder", ""), group["trace"]
+        trace = group["trace"]
         seen[trace] += 1
-        ways[number] = f"{''.join(trace)[:-len('.std')]}.html#group-{seen[trace]}"
+        page = result.name_of(trace)[:-len(".std")] + b".html"
+        ways[number] = f"{sarif.uri_of(page, '')['uri']}#group-{seen[trace]}"
     return ways
 
 
@@ -141,8 +147,8 @@ def bug_of(entries, groups, ways):
     names = sorted(names, key=lambda name: (b"#" in name, name))    # blocks have the least telling ones
     states = sorted({entry["state"] for entry in entries})
     pages = {}
-    for entry in paged:
-        pages.setdefault(entry["process"], ways[entry["group"]])
+    for process, group in itertools.chain(*map(shown, paged)):
+        pages.setdefault(process, ways[group])
     places = " and ".join(access["location"] for access in first["accesses"])
     form = groups[first["group"] - 1]["form"] if paged else None
     return Bug(flat(common_name(names)) if names else "", first.get("headline") or places,

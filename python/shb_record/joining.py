@@ -1,11 +1,16 @@
 """Several recordings as one, as those of the machines of a CI: their places once each, with their runs."""
 
 import os
-from urllib.parse import quote
 
 from shb_common import result
+from shb_common.known import CALL, Side, written
+from shb_common.locations import parts_of
+from shb_common.places import Row
+from shb_common.programs import Location
+from shb_common.report import Race
 from shb_common.words import Refused, counted, printable
-from shb_record.index import index
+from shb_record import tables
+from shb_record.index import shown
 from shb_record.parts import say
 from shb_record.results import Results
 
@@ -13,43 +18,70 @@ STATES = "unknown", "behind", "known"   # a place is the first of these that it 
 
 
 def join(options):
-    """Writes places.json, unknown.places and index.html of all. Returns the status: 66 if a place is unknown
-    in any, else the greatest of theirs."""
-    folders = [os.path.abspath(folder) for folder in options.words]
-    if os.path.realpath(options.folder) in map(os.path.realpath, folders):
+    """Writes the tables and index.html of all. Returns the status: 66 if a place is unknown in any, else the
+    greatest of theirs."""
+    paths = [path_of(word) for word in options.words]
+    if os.path.realpath(options.folder) in map(os.path.realpath, paths):
         raise Refused("--join: -o names one of the folders, whose pages would be replaced")
-    documents = [result.read(folder, lambda entry: entry["processes"]) for folder in folders]
-    lines = {}
-    for folder in folders:
-        with open(f"{folder}/unknown.places", "rb") as file:
-            lines.update(dict.fromkeys(file.read().splitlines(keepends=True)))
+    documents = [result.read(path, row_of) for path in paths]
+    for path, its in zip(paths, documents):
+        if its.get("command") != "shb-record":
+            raise Refused(f"{printable(os.fsencode(path))}: it isn't of shb-record")
     results = Results(options.folder, "--join")
-    joined = joined_of(folders, documents, results.folder)
-    faults = results.write({"places.json": result.in_bytes(joined), "unknown.places": b"".join(lines),
-                            "index.html": index(f"{counted(len(folders), 'recording')} joined", joined)})
+    joined = joined_of(paths, documents, results.folder)
+    title = f"{counted(len(paths), 'recording')} joined"
+    faults = results.write(tables.written(title, joined, list(map(row_of, joined["places"]))))
     results.close(True)
     if faults:
         raise faults[0]
     summary = joined["summary"]
-    say(f"{counted(summary['unknown'], 'unknown place')} with races in {counted(len(folders), 'recording')} "
+    say(f"{counted(summary['unknown'], 'unknown place')} with races in {counted(len(paths), 'recording')} "
         f"of {counted(summary['runs'], 'run')}; the overview: {results.folder}/index.html")
     return summary["status"]
 
 
-def joined_of(folders, documents, target):
-    """The documents as one. A process has its folder's name before its own."""
+def path_of(word):
+    """The folder of results that a word names, by itself or by its places.json; else the path of a file."""
+    folder, name = os.path.split(os.path.abspath(word))
+    return folder if name == result.NAME else os.path.join(folder, name)
+
+
+def row_of(entry):
+    """An entry as the row that it was written of, as far as tables need it."""
+    names, texts = (tuple(result.name_of(access[name]) for access in entry["accesses"])
+                    for name in ("location", "in_trace"))
+    return Row(tuple(Location(result.name_of(access.get("file", "")), b"") for access in entry["accesses"]),
+               names, texts, tuple(map(side_of, names, entry["accesses"])), entry["places"],
+               tuple((result.name_of(one["name"]), one["state"] == "known") for one in entry["variables"]),
+               entry["has_more_variables"], entry["state"] == "known", len(entry["processes"]),
+               (entry["process"], entry["trace"]),
+               Race(0, sorted(access["event"] for access in entry["accesses"]), (), None),
+               entry["state"] == "behind")
+
+
+def side_of(name, access):
+    file, _ = parts_of(name)
+    return Side((name,), tuple((b"%b:%b%b" % (file, written(result.name_of(function)), CALL),)
+                               for function in access["functions"]))
+
+
+def joined_of(paths, documents, target):
+    """The documents as one. A process has its folder's name before its own, and `pages` has all pages of a
+    place, each as a process and the number of its group."""
     places, groups, notes = {}, [], {}
-    for folder, its in zip(folders, documents):
-        whose = f"{printable(os.fsencode(os.path.basename(folder)))}, "
-        way = quote(os.fsencode(os.path.relpath(folder, target))) + "/"
+    top = os.path.commonpath(list(map(os.path.dirname, paths)))
+    for path, its in zip(paths, documents):
+        folder = path if os.path.isdir(path) else os.path.dirname(path)
+        whose = f"{printable(os.fsencode(os.path.relpath(path, top)))}, "
+        way = result.text(os.fsencode(os.path.relpath(folder, target))) + "/"
         for place in its["places"]:
             key = tuple(sorted(access["location"] for access in place["accesses"]))
-            moved = {**place, "process": whose + place["process"], "folder": way,
-                     "processes": [whose + name for name in place["processes"]]}
+            new = {**moved(place, whose, way), "processes": [whose + name for name in place["processes"]],
+                   "pages": [[whose + process, group + len(groups)] for process, group in shown(place)]}
             if "group" in place:
-                moved["group"] += len(groups)
-            places[key] = merged(places[key], moved) if key in places else moved
-        groups += [{**group, "process": whose + group["process"], "folder": way} for group in its["groups"]]
+                new["group"] += len(groups)
+            places[key] = merged(places[key], new) if key in places else new
+        groups += [moved(group, whose, way) for group in its["groups"]]
         notes.update(dict.fromkeys(its["notes"]))
     counts = {state: sum(place["places"] for place in places.values() if place["state"] == state)
               for state in STATES}
@@ -58,13 +90,22 @@ def joined_of(folders, documents, target):
                "status": 66 if unknown else max(its["summary"]["status"] for its in documents),
                "runs": sum(its["summary"]["runs"] for its in documents)}
     return result.document("shb-record", summary, [places[key] for key in sorted(places)], stale=[],
-                           notes=list(notes), groups=groups)
+                           notes=list(notes), groups=groups,
+                           is_whole=all(its.get("is_whole", True) for its in documents))
+
+
+def moved(one, whose, way):
+    return {**one, "process": whose + one["process"], "trace": way + one["trace"]}
 
 
 def merged(one, other):
-    """A place as two recordings have it: the accesses and the group are the first one's."""
-    variables = {its["name"]: its for its in (*other["variables"], *one["variables"])}
-    return {**one, "places": max(one["places"], other["places"]),
+    """A place as two recordings have it: the accesses and the group are those of the first with a page. A
+    variable is known if both know it."""
+    variables = {its["name"]: its for its in sorted((*one["variables"], *other["variables"]),
+                                                    key=lambda its: its["state"])}
+    return {**(other if other["pages"] and not one["pages"] else one),
+            "places": max(one["places"], other["places"]),
             "state": min(one["state"], other["state"], key=STATES.index),
             "variables": [variables[name] for name in sorted(variables)],
-            "processes": one["processes"] + other["processes"]}
+            "has_more_variables": one["has_more_variables"] or other["has_more_variables"],
+            "processes": one["processes"] + other["processes"], "pages": one["pages"] + other["pages"]}

@@ -36,8 +36,7 @@ class Look:
         self.runs = []  # of each run: the order of each process
         # did a process follow the list? the list of the first with an unknown place
         self.has_replayed, self.again = False, None
-        # by process and trace: the paths of source files; what is to know of pages
-        self.sources, self.notes, self.checked = {}, {}, []
+        self.notes, self.checked = {}, []   # what is to know of pages
         # known races whose second access reads what the first wrote
         self.modules, self.passed_over = Modules(), {}
         self.is_cut = self.is_killed = self.has_failed = self.is_contradicted = self.has_threads = False
@@ -268,7 +267,6 @@ class Look:
             self.fail(Contradiction(f"{process.name}: {bad_words(view)}"))
         self.pages.append(page)
         self.found[process.name, looked.trace] = found = document(view)
-        self.sources[process.name, looked.trace] = looked.called.sources
         its = [note for note in found["notes"] if note not in notes]
         self.checked += [note for note in its if note.startswith(VERIFIED)]
         self.notes.update(dict.fromkeys(note for note in its if not note.startswith(VERIFIED)))

@@ -5,6 +5,7 @@ import re
 import shlex
 
 from shb_common import result, sarif
+from shb_common.locations import parts_of
 from shb_common.places import unknown_places
 from shb_common.programs import pair_of
 from shb_record.index import index
@@ -14,18 +15,21 @@ NUMBERS = r"#\d+| \(\d+ (?:or more )?(?:variables|blocks)\)|(?<= and )\d+ (?:or 
 
 
 def tables_of(look, rows, status):
-    """The tables of all that was looked at, by their names. `rows` are those of its places."""
+    """The tables of all that was looked at. `rows` are those of its places."""
     found, groups = {}, []
     for (process, trace), its in look.found.items():
         places = [{**place, "group": len(groups) + place["group"]} for place in its["places"]]
         found.update(result.entries_of((process, trace), places))
         groups += [{**group, "process": process, "trace": os.path.basename(trace)} for group in its["groups"]]
     entries = [entry(look, row, result.entry_of(found, row)) for row in rows]
-    its = document(look, rows, entries, groups, status)
     title = shlex.join([look.options.program, *look.options.arguments])
+    return written(title, document(look, rows, entries, groups, status), rows)
+
+
+def written(title, its, rows):
+    """The tables of a document, by their names. `rows` are those of its entries."""
     return {"unknown.places": unknown_places(rows), "places.tsv": b"".join(table(rows)),
-            "places.json": result.in_bytes(its),
-            "places.sarif": log(look, rows, entries, status),
+            "places.json": result.in_bytes(its), "places.sarif": log(its, rows),
             "index.html": index(title, its)}
 
 
@@ -37,7 +41,8 @@ def document(look, rows, entries, groups, status):
                "known": count(rows) - unknown, "stale": len(stale),
                "status": status, "runs": len(look.runs)}
     return result.document("shb-record", summary, entries, stale=result.stale_of(stale),
-                           notes=[*look.meaning(), *look.counts()], groups=groups)
+                           notes=[*look.meaning(), *look.counts()], groups=groups,
+                           is_whole=not look.has_failed and not look.is_cut)
 
 
 def entry(look, row, found):
@@ -51,24 +56,20 @@ def entry(look, row, found):
                         processes=[name for name, _ in look.places.seen[pair_of(row.key)].traces])
 
 
-def log(look, rows, entries, status):
+def log(its, rows):
     """The same for code review tools."""
     alerts = []
-    for row, found in zip(rows, entries):
-        process, trace = row.example
+    for row, found in zip(rows, its["places"]):
         names = dict(zip(map(result.text, row.texts), row.names))
-        accesses = tuple(access_of(one, look.sources[row.example])
-                         for one in found["accesses"] if one.get("stacks"))
+        accesses = tuple(access_of(one) for one in found["accesses"] if one.get("stacks"))
         blamed = found.get("blamed")
         if blamed:
             blamed = (names.get(blamed["in_trace"], blamed["in_trace"].encode()),
                       blamed.get("file", "").encode())
-        example = os.fsencode(os.path.basename(trace))
-        alerts.append(sarif.Alert(row, without_numbers(found), "", example, accesses, {"process": process},
-                                  blamed))
-    notes = [("note", line) for line in look.meaning()]
-    return sarif.log(alerts, sarif.Here(os.getcwd()), notes, not look.has_failed and not look.is_cut,
-                     status)
+        alerts.append(sarif.Alert(row, without_numbers(found), "", result.name_of(found["trace"]), accesses,
+                                  {"process": found["process"]}, blamed))
+    notes = [("note", line) for line in its["notes"]]
+    return sarif.log(alerts, sarif.Here(os.getcwd()), notes, its["is_whole"], its["summary"]["status"])
 
 
 def without_numbers(found):
@@ -78,8 +79,10 @@ def without_numbers(found):
     return re.sub(NUMBERS, "", ". ".join(filter(None, (about + found.get("headline", ""), remedy))))
 
 
-def access_of(one, sources):
+def access_of(one):
     from shb_common.stacks import Frame  # takes its time, and most runs have no place
-    frames = [Frame(*(frame[name].encode() for name in ("function", "location")),
-                    frame.get("in_system", False)) for frame in one["stacks"][0]["frames"]]
-    return sarif.Access(one["thread"].encode(), one["operation"].encode(), frames, sources)
+    its = one["stacks"][0]["frames"]
+    frames = [Frame(frame["function"].encode(), frame["location"].encode(), frame.get("in_system", False))
+              for frame in its]
+    files = {parts_of(frame.location)[0]: one.get("file", "").encode() for frame, one in zip(frames, its)}
+    return sarif.Access(one["thread"].encode(), one["operation"].encode(), frames, files)

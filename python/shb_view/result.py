@@ -1,6 +1,7 @@
 """What is shown, in the form that programs read."""
 
 from shb_common import result
+from shb_common.locations import parts_of
 from shb_common.programs import naming
 from shb_common.variables import without_block
 from shb_view.facts import blamed_of
@@ -41,7 +42,7 @@ def entry(view, section, pair, origin, names, variables):
             found["code"] = result.text(code)
         if location in sites:
             found.update(site_entry(sites[location]))
-        found["stacks"] = [stack_entry(frames, count) for (frames, _),
+        found["stacks"] = [stack_entry(frames, count, view.stacks.sources) for (frames, _),
                            count in section.callers.get(location, ())[:MOST_STACKS] if frames]
         accesses.append(found)
     return {"places": len(pair.places), "accesses": accesses,
@@ -85,7 +86,12 @@ def site_entry(site):
             "locks": locks, "without_lock": site.bare}
 
 
-def stack_entry(frames, count):
-    its = [{"function": result.text(frame.function), "location": result.text(frame.location),
-            **({"in_system": True} if frame.in_system else {})} for frame in frames[:MOST_FRAMES]]
-    return {"accesses": count, "frames": its}
+def stack_entry(frames, count, sources):
+    return {"accesses": count, "frames": [frame_entry(frame, sources) for frame in frames[:MOST_FRAMES]]}
+
+
+def frame_entry(frame, sources):
+    path = sources.get(parts_of(frame.location)[0])
+    return {"function": result.text(frame.function), "location": result.text(frame.location),
+            **({"file": result.text(path)} if path else {}),
+            **({"in_system": True} if frame.in_system else {})}

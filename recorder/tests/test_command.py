@@ -554,7 +554,8 @@ int main(int count, char **words) {
                              ("stats.c:6", ["serve"], str(self.folder / "one" / "stats.c"), "balance++;"))
             self.assertEqual((access["locks"], access["without_lock"] > 0, len(access["threads"])),
                              ([], True, 2))
-            self.assertEqual(access["stacks"][0]["frames"][0], {"function": "serve", "location": "stats.c:6"})
+            self.assertEqual(access["stacks"][0]["frames"][0], 
+                             {"function": "serve", "location": "stats.c:6", "file": access["file"]})
         self.assertIn("no lock is held at any access", place["facts"][0])
         self.assertEqual([one["state"] for one in by_state["known"]["variables"]], ["known"])
         results = log["runs"][0]["results"]

@@ -224,6 +224,17 @@ class Results(recorder.Case):
                                 json.dumps([result["message"], result["partialFingerprints"]])))
         self.assertEqual(*texts)
 
+    def test_one_recording_joined_stays_what_it_is(self):
+        """Its places, its known places and its alerts, all but the names of processes."""
+        (self.folder / ".git").mkdir()
+        self.record("-o", "out", self.build(RACE, folder="source/lib"))
+        self.assertEqual(self.record("--join", "-o", "joined", "out/places.json")[0], 66)
+        texts = [{path.name: path.read_text() for path in (self.folder / name).glob("*places*")}
+                 for name in ("out", "joined")]
+        self.assertIn('"codeFlows"', texts[0]["places.sarif"])
+        for name in ("unknown.places", "places.tsv", "places.sarif"):
+            self.assertEqual(texts[1][name].replace("out, run 1", "run 1"), texts[0][name])
+
     def test_code_review_shows_an_alert_at_the_line_to_mend(self):
         program = self.build((recorder.SOURCES.parent / "examples" / "account.c").read_text())
         self.assertEqual(self.record("-o", "out", program)[0], 66)
