@@ -10,10 +10,10 @@ from shb_common.standard import faults_of
 def open_regular(path):
     """A regular file, open for reading; OSError for anything else, which may have no end and isn't waited
     for."""
-    file = open(os.open(path, os.O_RDONLY | os.O_NONBLOCK | os.O_CLOEXEC), "rb")
-    if stat.S_ISREG(os.fstat(file.fileno()).st_mode):
-        return file
-    file.close()
+    number = os.open(path, os.O_RDONLY | os.O_NONBLOCK | os.O_CLOEXEC)
+    if stat.S_ISREG(os.fstat(number).st_mode):
+        return open(number, "rb")
+    os.close(number)
     raise OSError(0, "it isn't a regular file", path)
 
 

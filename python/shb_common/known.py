@@ -22,6 +22,13 @@ MOST_OFFSETS = 4            # of one block or object, that are written one by on
 MOST_STALE = 20             # lines that are said to match nothing
 CALL = b"()"
 FORM = "a place is two locations or functions and a variable, with tabs between them"
+HELP = """\
+Known places:
+  On a line two locations, or functions as FILE:FUNCTION(), in either order,
+  and the variable, with tabs between; * stands for any text, and \\* for the
+  sign itself. A line with two fields applies to every variable. Empty lines,
+  and lines that begin with #, are skipped; \\# begins a field with this sign.
+"""
 # What other files have instead, and what helps.
 FOREIGN = {
     rb"(race|race_top|called_from_lib|thread|mutex|signal|deadlock):":

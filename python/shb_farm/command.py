@@ -26,7 +26,7 @@ NAME.std, NAME.std.gz or NAME.std.xz; links within the folder are followed. Each
 trace ends as a file in OUT/outcomes, put in place whole and last. To resume, or
 when traces or the program have changed, run the same command again: it makes
 what isn't there yet."""
-NOTES = """\
+NOTES = f"""\
 Files in OUT:
   places.txt      the places as text, which is also printed; then the traces
                   without a report
@@ -40,12 +40,7 @@ Files in OUT:
   reports/        for each unknown place what 'shb places --list --variables'
                   writes of the smallest trace that has it
 
-Known places:
-  On a line two locations, or functions as FILE:FUNCTION(), in either order,
-  and the variable, with tabs between; * stands for any text, and \\* for the
-  sign itself. A line with two fields applies to every variable. Empty lines,
-  and lines that begin with #, are skipped; \\# begins a field with this sign.
-  Functions are known if the recorder's NAME.stacks is beside NAME.std. Lines
+{known.HELP}  Functions are known if the recorder's NAME.stacks is beside NAME.std. Lines
   that match nothing are reported, unless a trace has no list of places.
 
 Exit status:
@@ -66,7 +61,7 @@ Exit status:
   stacks), places, unknown, known, stale (lines of known places), unreported
   (places whose report is missing). For example
 
-      awk '$1 == "refused" && $2 > 0 { bad = 1 } END { exit bad }' out/facts.tsv
+      awk '$1 == "refused" && $2 > 0 {{ bad = 1 }} END {{ exit bad }}' out/facts.tsv
 
 Environment:
   SHB  the program to run, if not the one that came with this command

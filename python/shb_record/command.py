@@ -43,7 +43,8 @@ gcc need nothing else. With clang, which links a library of its own, set
 
 A place is a pair of locations that race, that of the first access and that of the second,
 each of its own program's source file."""
-NOTES = """\
+NOTES = f"""\
+{known.HELP}
 The environment's SHB names another analyser. SHB_SEED, SHB_SLICE, SHB_CELLS, SHB_RECORDS and SHB_STALL are
 the recorder's (docs/RECORDER.md).
 
@@ -66,15 +67,11 @@ def parser_of_words():
                         "a place its page's trace, the list of its places and a page with its races; "
                         "places.tsv, places.json, places.sarif and unknown.places; and a list of what was "
                         "made there. What the list of an earlier call names is replaced, and nothing else. "
-                        "While another call uses DIR, the results go to DIR-2, DIR-3 and so on. The places "
-                        "are those of the whole run, however long it is (shb help places). A page has a "
-                        "trace of its own, which is cut around its races")
+                        "While another call uses DIR, the results go to DIR-2, DIR-3 and so on")
     add_runs(parser)
     parser.add_argument("--known", metavar="FILE", dest="known_path",
-                        help="places to skip, as unknown.places has them: on a line two locations, "
-                        "FILE:LINE, or functions, FILE:FUNCTION(), in either order, and the variable, with "
-                        "tabs between; * stands for any text; a line that begins with # is a comment. A line "
-                        "with two fields applies to every variable. Lines that match nothing are reported")
+                        help="places to skip, as unknown.places has them. Lines that match nothing are "
+                        "reported")
     parser.add_argument("--fail-on-stale", action="store_true",
                         help="end with status 67 for lines that match nothing, if no race is unknown. A race "
                         "that is in few runs needs --runs")

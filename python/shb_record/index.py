@@ -117,7 +117,7 @@ def keys_of(entry):
     """What a place shares with others of its bug: its group, and variables with a name that lasts."""
     yield from (("group", group) for _, group in shown(entry))
     for variable in entry["variables"]:
-        name = known.lasting(variable["name"].encode("utf-8", "surrogatepass"))
+        name = known.lasting(result.name_of(variable["name"]))
         if b"*" not in name:
             yield "variable", name
 
@@ -142,8 +142,8 @@ def bug_of(entries, groups, ways):
                    key=lambda entry: -len(groups[entry["group"] - 1]["pairs"]))
     first = (paged or entries)[0]
     blamed = first.get("blamed") or first["accesses"][0]
-    file, _ = parts_of(blamed["location"].encode("utf-8", "surrogatepass"))
-    names = {one["name"].encode("utf-8", "surrogatepass") for entry in entries for one in entry["variables"]}
+    file, _ = parts_of(result.name_of(blamed["location"]))
+    names = {result.name_of(one["name"]) for entry in entries for one in entry["variables"]}
     names = sorted(names, key=lambda name: (b"#" in name, name))    # blocks have the least telling ones
     states = sorted({entry["state"] for entry in entries})
     pages = {}
@@ -152,7 +152,7 @@ def bug_of(entries, groups, ways):
     places = " and ".join(access["location"] for access in first["accesses"])
     form = groups[first["group"] - 1]["form"] if paged else None
     return Bug(flat(common_name(names)) if names else "", first.get("headline") or places,
-               first.get("remedy", ""), file.decode("utf-8", "backslashreplace"),
+               first.get("remedy", ""), result.text(file),
                sum(entry["places"] for entry in entries), pages,
                set().union(*(entry["processes"] for entry in entries)), states,
                ("unknown" not in states, RANKS.get(form, len(RANKS))))

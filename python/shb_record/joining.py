@@ -28,15 +28,14 @@ def join(options):
         if its.get("command") != "shb-record":
             raise Refused(f"{printable(os.fsencode(path))}: it isn't of shb-record")
     results = Results(options.folder, "--join")
-    joined = joined_of(paths, documents, results.folder)
-    title = f"{counted(len(paths), 'recording')} joined"
-    faults = results.write(tables.written(title, joined, list(map(row_of, joined["places"]))))
+    joined, rows = joined_of(paths, documents, results.folder)
+    summary, recordings = joined["summary"], counted(len(paths), "recording")
+    faults = results.write(tables.written(f"{recordings} joined", joined, rows))
     results.close(True)
     if faults:
         raise faults[0]
-    summary = joined["summary"]
-    say(f"{counted(summary['unknown'], 'unknown place')} with races in {counted(len(paths), 'recording')} "
-        f"of {counted(summary['runs'], 'run')}; the overview: {results.folder}/index.html")
+    say(f"{counted(summary['unknown'], 'unknown place')} with races in {recordings} of "
+        f"{counted(summary['runs'], 'run')}; the overview: {results.folder}/index.html")
     return summary["status"]
 
 
@@ -66,8 +65,8 @@ def side_of(name, access):
 
 
 def joined_of(paths, documents, target):
-    """The documents as one. A process has its folder's name before its own, and `pages` has all pages of a
-    place, each as a process and the number of its group."""
+    """The documents as one, and the rows of its places. A process has its folder's name before its own, and
+    `pages` has all pages of a place, each as a process and the number of its group."""
     places, groups, notes = {}, [], {}
     top = os.path.commonpath(list(map(os.path.dirname, paths)))
     for path, its in zip(paths, documents):
@@ -83,15 +82,13 @@ def joined_of(paths, documents, target):
             places[key] = merged(places[key], new) if key in places else new
         groups += [moved(group, whose, way) for group in its["groups"]]
         notes.update(dict.fromkeys(its["notes"]))
-    counts = {state: sum(place["places"] for place in places.values() if place["state"] == state)
-              for state in STATES}
-    unknown = counts["unknown"] + counts["behind"]
-    summary = {"places": unknown + counts["known"], **counts, "unknown": unknown, "stale": 0,
-               "status": 66 if unknown else max(its["summary"]["status"] for its in documents),
-               "runs": sum(its["summary"]["runs"] for its in documents)}
-    return result.document("shb-record", summary, [places[key] for key in sorted(places)], stale=[],
-                           notes=list(notes), groups=groups,
-                           is_whole=all(its.get("is_whole", True) for its in documents))
+    entries = [places[key] for key in sorted(places)]
+    rows, sums = list(map(row_of, entries)), [its["summary"] for its in documents]
+    counts = tables.counts(rows)
+    status = 66 if counts["unknown"] else max(its["status"] for its in sums)
+    summary = {**counts, "stale": 0, "status": status, "runs": sum(its["runs"] for its in sums)}
+    return result.document("shb-record", summary, entries, stale=[], notes=list(notes), groups=groups,
+                           is_whole=all(its.get("is_whole", True) for its in documents)), rows
 
 
 def moved(one, whose, way):

@@ -35,14 +35,17 @@ def written(title, its, rows):
 
 def document(look, rows, entries, groups, status):
     """All places with what is known of them, as `result.document` has them."""
-    stale, unknown = look.stale(), count(row for row in rows if not row.is_known)
-    summary = {"places": count(rows), "unknown": unknown,
-               "behind": count(row for row in rows if row.state() == "behind"),
-               "known": count(rows) - unknown, "stale": len(stale),
-               "status": status, "runs": len(look.runs)}
+    stale = look.stale()
+    summary = {**counts(rows), "stale": len(stale), "status": status, "runs": len(look.runs)}
     return result.document("shb-record", summary, entries, stale=result.stale_of(stale),
                            notes=[*look.meaning(), *look.counts()], groups=groups,
                            is_whole=not look.has_failed and not look.is_cut)
+
+
+def counts(rows):
+    known = count(row for row in rows if row.is_known)
+    return {"places": count(rows), "unknown": count(rows) - known,
+            "behind": count(row for row in rows if row.state() == "behind"), "known": known}
 
 
 def entry(look, row, found):
@@ -64,8 +67,8 @@ def log(its, rows):
         accesses = tuple(access_of(one) for one in found["accesses"] if one.get("stacks"))
         blamed = found.get("blamed")
         if blamed:
-            blamed = (names.get(blamed["in_trace"], blamed["in_trace"].encode()),
-                      blamed.get("file", "").encode())
+            name, path = (result.name_of(blamed.get(its, "")) for its in ("in_trace", "file"))
+            blamed = names.get(blamed["in_trace"], name), path
         alerts.append(sarif.Alert(row, without_numbers(found), "", result.name_of(found["trace"]), accesses,
                                   {"process": found["process"]}, blamed))
     notes = [("note", line) for line in its["notes"]]

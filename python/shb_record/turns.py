@@ -2,10 +2,9 @@
 
 import array
 import collections
-import os
 import re
-import stat
 
+from shb_common.files import open_regular
 from shb_common.words import Refused
 
 HEADER_BYTES, ENTRY_BYTES, MOST_BYTES = 4096, 8, 128 << 20
@@ -16,11 +15,8 @@ List = collections.namedtuple("List", "content command")
 
 def read(path):
     """The list in a file, or why it can't be followed."""
-    try:
-        with open(path, "rb", opener=lambda name, flags: os.open(name, flags | os.O_NONBLOCK)) as file:
-            content = file.read(MOST_BYTES + 1) if stat.S_ISREG(os.fstat(file.fileno()).st_mode) else b""
-    except OSError as fault:
-        raise Refused(f"{path}: {fault.strerror}") from None
+    with open_regular(path) as file:
+        content = file.read(MOST_BYTES + 1)
     if re.match(rb"shb-turns (?!5\n)\d+\n", content):
         raise Refused(f"{path} is not followed: another version of the recorder wrote it")
     header, entries = HEADER.fullmatch(content[:HEADER_BYTES]), content[HEADER_BYTES:]
