@@ -57,7 +57,7 @@ class BadLine(Refused):
     """A line of the file of known places that is none."""
 
 
-class Side(collections.namedtuple("Side", "names functions", defaults=((),))):
+class Side(collections.namedtuple("Side", "names functions")):
     """What a location may be called in the file: its names, and those of each function that it lies in. The
     first of several names is the one that is written."""
 

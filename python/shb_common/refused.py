@@ -14,18 +14,14 @@ SEPARATORS = {b"\t": "tabs", b",": "commas", b";": "semicolons"}
 MARK = b"\xef\xbb\xbf"
 # as `shb` says it of any trace
 NOTE = b"the trace begins with a byte order mark, which is a part of the first thread's name\n"
-BEGINNINGS = {      # of files that are something else
-    b"\x1f\x8b": "the file is packed by gzip: unpack it first",
-    b"\xfd7zXZ": "the file is packed by xz: unpack it first",
-    b"\x28\xb5\x2f\xfd": "the file is packed by zstd: unpack it first",
-    b"BZh": "the file is packed by bzip2: unpack it first",
-    b"PK\x03\x04": "the file is a zip archive: unpack it first",
-    b"\xff\xfe": "the file is UTF-16: save it as UTF-8",
-    b"\xfe\xff": "the file is UTF-16: save it as UTF-8",
-    MARK: "the file begins with a byte order mark: save it without one",
-    b"shb-report": "the file is a report of `shb`, not a trace",
-    b"shb-record": "the file is a record: `shb-std` makes a trace of it",
-}
+PACKED = "is packed by {}: unpack it first".format
+UTF_16 = "is UTF-16: save it as UTF-8"
+BEGINNINGS = {beginning: f"the file {hint}" for beginning, hint in {      # of files that are something else
+    b"\x1f\x8b": PACKED("gzip"), b"\xfd7zXZ": PACKED("xz"), b"\x28\xb5\x2f\xfd": PACKED("zstd"),
+    b"BZh": PACKED("bzip2"), b"PK\x03\x04": "is a zip archive: unpack it first",
+    b"\xff\xfe": UTF_16, b"\xfe\xff": UTF_16, MARK: "begins with a byte order mark: save it without one",
+    b"shb-report": "is a report of `shb`, not a trace",
+    b"shb-record": "is a record: `shb-std` makes a trace of it"}.items()}
 REPAIRS = {         # of faults between lines
     "the lock is not held by this thread": "the log may begin while the lock is held, or miss an acquire",
     "the lock is held by another thread": "the log may miss a release",

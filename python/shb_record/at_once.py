@@ -81,7 +81,7 @@ class Worker:
         return answer
 
 
-def outcomes(options, folder, look=None):
+def outcomes(options, folder, look):
     """What became of each run, in their order. Those that are not asked for are ended, and leave nothing."""
     workers, numbers = collections.deque(), iter(range(1, options.runs + 1))
     try:

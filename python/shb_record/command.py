@@ -20,10 +20,9 @@ from shb_record.at_once import jobs_of, outcomes
 from shb_record.converting import Records
 from shb_record.looking import Look
 from shb_record.parts import LIBRARY, check_parts, say
-from shb_record.places import count
 from shb_record.results import Results
 from shb_record.running import REPLAYED, CannotRun
-from shb_record.tables import tables_of
+from shb_record.tables import counts, tables_of
 
 MOST_PASSED, WAIT = 8, 10  # known races that are named; seconds
 RACES, STALE, CUT, FAILED, CANNOT_RUN, NOT_THERE = 66, 67, 124, 125, 126, 127
@@ -280,8 +279,7 @@ def status_of(look, rows):
 
 def conclude(look, rows, status):
     its = [row for row in rows if not row.is_known]
-    unknown = count(its)
-    passed_over, behind = count(rows) - unknown, count(row for row in rows if row.state() == "behind")
+    unknown, passed_over, behind = map(counts(rows).get, ("unknown", "known", "behind"))
     for words in known.words_of_stale(look.stale(), look.places.names):
         say(f"{look.options.known_path}, {words}")
     for first, second in itertools.islice(look.passed_over, MOST_PASSED):

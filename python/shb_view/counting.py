@@ -85,7 +85,7 @@ class Kinds:
 
 
 class Counting:
-    def __init__(self, groups, wanted, kinds, uses=None):
+    def __init__(self, groups, wanted, kinds, uses):
         """`groups` has a number for each racing variable; `wanted` are the accesses to be noted, `kinds` says
         what an access is; `uses` are those of the whole run if the trace is a part of it."""
         self.uses, self.are_apart = uses and uses.uses, uses and uses.are_apart

@@ -244,7 +244,7 @@ def held_in(uses):
     return found
 
 
-def sites_of(group, used, private, name, word="lock"):
+def sites_of(group, used, private, name, word):
     """The lines that use a group's variables: racing ones first, then those that write, then by how often;
     and their locks."""
     racing, locks, sites = group.locations(), Locks(used, private, name, word), {}

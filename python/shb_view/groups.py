@@ -38,7 +38,7 @@ class Group(collections.namedtuple("Group", "pairs variables names")):
         """The racing lines."""
         return {location for pair in self.pairs for location in pair.locations}
 
-    def closest(self, blamed=None):
+    def closest(self, blamed):
         """The listed race whose events are closest in the trace: one with a schedule if there is one, and at
         the blamed line."""
         return min((pair.closest for pair in self.pairs[:MOST_SHOWN]),
