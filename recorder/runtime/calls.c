@@ -110,8 +110,9 @@ static uint64_t kind_of(const context *c) {
 }
 
 /* A use under locks stands for those alone that are under the same ones: they are as a call further in. But
-   sets of locks that come when so many have numbers share as many more. */
-enum { SETS = 64 };
+   sets of locks that come when so many have numbers share a few more: of thousands of sets, as of locks in a
+   table, most uses would be of a kind of their own. */
+enum { SETS = 64, SHARED = 4 };
 static uint32_t number_of_set(uint64_t sum) {
     static _Atomic uint64_t known[SETS];
     for (uint32_t k = 0; k < SETS; k++) {
@@ -120,7 +121,7 @@ static uint32_t number_of_set(uint64_t sum) {
         if (!there && atomic_compare_exchange_strong(&known[at], &there, sum)) there = sum;
         if (there == sum) return at + 1;
     }
-    return SETS + 1 + sum % SETS;
+    return SETS + 1 + sum % SHARED;
 }
 
 void set_locks(thread *t, uint64_t sum) {
