@@ -29,13 +29,10 @@ static _Atomic uint32_t kept_count = 1, buckets[BUCKETS];
 
 context *context_at(const thread *t, uint32_t depth) { return depth ? t->frames[depth - 1].in : kept; }
 
-static uint64_t kind_under(uint32_t set, uint64_t kind);
-
 void set_depth(thread *t, uint32_t depth) {
     t->depth = depth;
-    context *c = context_at(t, recordable_depth(t));
-    t->in = c;
-    t->kind = t->set && c->kind != NO_KIND ? kind_under(t->set, c->kind) : c->kind;
+    t->in = context_at(t, recordable_depth(t));
+    t->kind = t->in->kind | t->set;
 }
 
 int is_kept_context(const context *c) { return c >= kept && c < kept + MOST_KEPT; }
@@ -109,39 +106,28 @@ static uint64_t kind_of(const context *c) {
     return kind ? (uint64_t)(kind - kept) << KIND_AT : NO_KIND;
 }
 
-/* A use under locks stands for those alone that are under the same ones: they are as a call further in. But
-   sets of locks that come when so many have numbers share a few more: of thousands of sets, as of locks in a
-   table, most uses would be of a kind of their own. */
+/* ---- sets of locks ---- */
+/* A use under locks stands for those alone that are under the same ones. But sets that come when so many have
+   numbers share a few more: of thousands of sets, as of locks in a table, most uses would be of a kind of
+   their own. */
 enum { SETS = 64, SHARED = 4 };
-static uint32_t number_of_set(uint64_t sum) {
-    static _Atomic uint64_t known[SETS];
-    for (uint32_t k = 0; k < SETS; k++) {
-        uint32_t at = (sum + k) % SETS;
-        uint64_t there = atomic_load_explicit(&known[at], memory_order_relaxed);
-        if (!there && atomic_compare_exchange_strong(&known[at], &there, sum)) there = sum;
-        if (there == sum) return at + 1;
-    }
-    return SETS + 1 + sum % SHARED;
+
+/* With the turn. */
+static uint64_t number_of_set(uint64_t sum) {
+    enum { KNOWN = 4 * SETS };         /* a set's sum with its number in the place of the last bits */
+    static uint64_t known[KNOWN], count;
+    uint32_t at = sum >> SET_BITS;
+    while (known[at % KNOWN] && (known[at % KNOWN] ^ sum) >> SET_BITS) at++;
+    uint64_t *set = &known[at % KNOWN];
+    if (!*set && count == SETS) return SETS + 1 + sum % SHARED;
+    if (!*set) *set = sum >> SET_BITS << SET_BITS | ++count;
+    return *set % (1 << SET_BITS);
 }
 
 void set_locks(thread *t, uint64_t sum) {
     t->sum_of_locks = sum;
-    t->set = sum ? number_of_set(sum) : 0;
-    set_depth(t, t->depth);
-}
-
-/* Where there is no room the kind is that without locks. */
-static uint64_t kind_under(uint32_t set, uint64_t kind) {
-    enum { LOG_KNOWN = 12, KEY_AT = 64 - KIND_AT };
-    static _Atomic uint64_t known[1 << LOG_KNOWN];           /* what was asked for last: key and kind */
-    const uint64_t key = kind >> KIND_AT << 8 | set;
-    _Atomic uint64_t *last = &known[key * 0x9E3779B97F4A7C15u >> (64 - LOG_KNOWN)];
-    uint64_t there = atomic_load_explicit(last, memory_order_relaxed);
-    if (there >> KEY_AT == key) return there << KIND_AT;
-    const context call = {.caller = set}, *under = kind_with(&kept[kind >> KIND_AT], &call);
-    if (!under) return kind;
-    atomic_store_explicit(last, key << KEY_AT | (under - kept), memory_order_relaxed);
-    return (uint64_t)(under - kept) << KIND_AT;
+    t->set = sum ? number_of_set(sum) << SET_AT : 0;
+    t->kind = t->in->kind | t->set;
 }
 
 /* The function in the frame is called as `new` says, in those of `outer`. Where there is no room for a

@@ -257,7 +257,7 @@ static int has_freed(const cell_page *page) {
 }
 
 /* ---- uses ---- */
-static int has_reader(uint64_t from) { return from << (64 - KIND_AT) >> (64 - KIND_AT + GRAINS_BEFORE) != 0; }
+static int has_reader(uint64_t from) { return from << (64 - SET_AT) >> (64 - SET_AT + NUMBER_BITS) != 0; }
 
 /* The number of a use, which gets one; or 0. */
 static uint32_t number_of_use(cell_use use) {
@@ -274,9 +274,9 @@ static uint32_t number_of_use(cell_use use) {
 /* ---- phases ---- */
 static void put_held(const cell *c, key key, uint64_t address) {
     const cell_use *use = &cell_uses[*key.use];
-    uint64_t byte = use->what >> FIRST_BYTE & (GRAIN - 1), before = use->from % (1 << GRAINS_BEFORE);
-    uint64_t first = (address / GRAIN - before) * GRAIN + byte;
-    uint16_t number = c->owner == READERS ? use->from >> GRAINS_BEFORE : c->number;
+    uint64_t byte = use->what >> FIRST_BYTE & (GRAIN - 1), low = use->from % (1 << NUMBER_BITS);
+    uint64_t first = (address / GRAIN - (c->owner == READERS ? 0 : low)) * GRAIN + byte;
+    uint16_t number = c->owner == READERS ? low : c->number;
     put_late((struct record){first | (uint64_t)number << 48, use->what ^ byte << FIRST_BYTE}, *key.word);
 }
 
@@ -358,7 +358,7 @@ static int give_to_readers(cell *c) {
         key old = key_at(c, k);
         if (!*old.use) continue;
         cell_use use = cell_uses[*old.use];
-        int is_of_one = use.from << (64 - KIND_AT) == 0;
+        int is_of_one = use.from << (64 - SET_AT) == 0;
         use.from |= reader;
         new[used] = is_of_one && reader ? number_of_use(use) : 0;
         words[used] = *old.word;

@@ -48,18 +48,18 @@ enum { REGIONS = 1 << (ADDRESS_BITS - REGION_BITS), PAGES_OF_REGION = (1 << REGI
 /* A use is an access of a kind, at a place, of certain bytes of the cell's, in contexts of one kind
    (calls.c). It is known by its slot in a table, of which the first is none's. `what` is that of a record
    that tells no depth, and the byte in the first cell stands in bits of the operation, of which an access
-   needs three. `from` is the kind of its context and the reader or 0, or the kind and how many cells come
-   before this one. */
+   needs three. `from` is the kind of its context, the set of locks that are held, and below these the reader,
+   or how many cells come before this one. */
 typedef struct { uint64_t what, from; } cell_use;
-enum { FIRST_BYTE = 51, GRAINS_BEFORE = 6, NUMBER_BITS = 16, SERIAL_BITS = 24,
-       KIND_AT = GRAINS_BEFORE + NUMBER_BITS + SERIAL_BITS };
+enum { FIRST_BYTE = 51, GRAINS_BEFORE = 6, NUMBER_BITS = 16, SERIAL_BITS = 23, SET_BITS = 7,
+       SET_AT = NUMBER_BITS + SERIAL_BITS, KIND_AT = SET_AT + SET_BITS };
 enum { KINDS = 1 << (64 - KIND_AT), USE_SLOTS = 1 << 18 };
 #define OF_ALL_DEPTHS ((uint64_t)DEPTH_BEFORE << (54 + LOGARITHM_BITS))
 #define NO_KIND (~0ull)                /* no use is of that */
 
 /* 0 for a thread that can't be one: so many were there before. */
 static inline uint64_t reader_of(uint32_t serial, uint16_t number) {
-    return serial >> SERIAL_BITS ? 0 : ((uint64_t)serial << NUMBER_BITS | number) << GRAINS_BEFORE;
+    return serial >> SERIAL_BITS ? 0 : (uint64_t)serial << NUMBER_BITS | number;
 }
 static inline enum operation operation_of_use(uint64_t what) { return what >> 48 & 7; }
 static inline int has_depth(uint64_t what) {

@@ -77,8 +77,8 @@ typedef struct thread {
     volatile int place;                /* among the waiters */
     int quantum;                       /* hooks until it gives the turn to a waiter */
     int spins;                         /* how often in a row its last hook left the value as it was */
-    uint32_t locks, set;               /* that it took and has yet to release; their set's number, or 0 */
-    uint64_t sum_of_locks;
+    uint32_t locks;                    /* that it took and has yet to release */
+    uint64_t sum_of_locks, set;        /* their set, as cells.h has it in a use */
     /* its last ones in the record */
     struct read { struct record r; uint64_t changes; const context *context; } recent[RECENT_READS];
     unsigned next_recent;
