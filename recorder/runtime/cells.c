@@ -535,6 +535,12 @@ static int is_used_by_all(enum operation operation, uint64_t address, uint64_t e
         && operation <= OP_DESTROY;
 }
 
+/* The first of most locks' cells is theirs already. */
+static void use_by_all(uint64_t address, uint64_t end) {
+    const cell *one = is_in_one(address, end) ? find_cell(address) : 0;
+    if (!one || one->owner != USED_BY_ALL) use_range(USED_BY_ALL, 0, address, end);
+}
+
 int hold_back(uint32_t serial, struct record r, uint64_t bytes, uint64_t kind, uint64_t word) {
     enum operation operation = operation_of(r);
     uint64_t address = r.where & LOW_48_BITS, end = address + bytes;
@@ -542,7 +548,7 @@ int hold_back(uint32_t serial, struct record r, uint64_t bytes, uint64_t kind, u
     if (!bytes || end > CELL_ADDRESSES) return 0;
     if (operation == OP_FREE) free_range(serial, number, address, end);
     else if (operation == OP_ALLOC || operation == OP_START) renew(address, end);
-    else if (is_used_by_all(operation, address, end)) use_range(USED_BY_ALL, 0, address, end);
+    else if (is_used_by_all(operation, address, end)) use_by_all(address, end);
     else if (operation <= OP_ATOMIC_UPDATE && is_in_one(address, end))
         return hold_in_one(serial, r, kind, word);
     else if (is_plain(operation)) return hold_in_several(serial, r, end, kind, word);
