@@ -482,7 +482,7 @@ static int begin_segment(void) {
     return done;
 }
 
-void next_segment(thread *t) {
+__attribute__((noinline)) void next_segment(thread *t) {
     int saved = errno, done = 1;
     if (begin_work(t) && is_segment_full()) done = begin_segment();
     t->works = 0;

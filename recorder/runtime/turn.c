@@ -279,12 +279,10 @@ static int is_another_coming(const thread *t) {
     return 0;
 }
 
-/* At the end of a slice: is there a waiter?  Where slices are short one that was woken is waited for: to come
-   takes it longer than many of them. */
-static int is_wanted(thread *t) {
-    static int in_vain;
+/* Where slices are short one that was woken is waited for: to come takes it longer than many of them. */
+static int in_vain;
+static __attribute__((noinline)) int wait_for_another(thread *t) {
     int saved = errno, is_coming;
-    if (waiters || !others || !are_slices_short() || in_vain > MOST_IN_VAIN) return waiters;
     if (HOLDER(atomic_load(&turn)) != NAME(t)) return 0;
     t->quantum = draw_slice();
     t->works = 1;
@@ -298,6 +296,12 @@ static int is_wanted(thread *t) {
     t->works = 0;
     errno = saved;
     return waiters;
+}
+
+/* At the end of a slice: is there a waiter? */
+static int is_wanted(thread *t) {
+    int may_come = !waiters && others && are_slices_short() && in_vain <= MOST_IN_VAIN;
+    return may_come ? wait_for_another(t) : waiters;
 }
 
 /* The waiter's last step, and the end of its doubt: takes the turn if its word is still the one seen; also
@@ -540,6 +544,10 @@ static void let_be_quick(thread *t) {
     t->limit = left ? t->steps + left : 0;
 }
 
+static __attribute__((noinline)) void end_slice(thread *t) {
+    if (hand_over(t, AT_SLICE_END)) take_or_wait(t, 1);
+}
+
 /* Without the turn: put asks for it. */
 thread *enter_access(enum yields yields) {
     thread *t = self;
@@ -547,9 +555,8 @@ thread *enter_access(enum yields yields) {
     if (!t || !recording || t->inside) return 0;
     begin_inside(t);
     count_quick(t);
-    if (--t->quantum <= 0 && (is_replaying ? yields : yields == MAY_YIELD && is_wanted(t))) {
-        if (hand_over(t, AT_SLICE_END)) take_or_wait(t, 1);
-    } else t->steps++;
+    if (--t->quantum <= 0 && (is_replaying ? yields : yields == MAY_YIELD && is_wanted(t))) end_slice(t);
+    else t->steps++;
     if (segment_records && yields && is_segment_full()) next_segment(t);
     return t;
 }
