@@ -107,26 +107,26 @@ static uint64_t kind_of(const context *c) {
 }
 
 /* ---- sets of locks ---- */
-/* A use under locks stands for those alone that are under the same ones. But sets that come when so many have
-   numbers share a few more: of thousands of sets, as of locks in a table, most uses would be of a kind of
-   their own. */
+/* A use under locks stands for those alone that are under the same ones. But where so many sets have numbers
+   the others of one, two, three and more locks share one each: of thousands of sets, as of locks in a table,
+   most uses would be of a kind of their own. */
 enum { SETS = 64, SHARED = 4 };
 
 /* With the turn. */
-static uint64_t number_of_set(uint64_t sum) {
+static uint64_t number_of_set(uint64_t sum, uint32_t locks) {
     enum { KNOWN = 4 * SETS };         /* a set's sum with its number in the place of the last bits */
     static uint64_t known[KNOWN], count;
     uint32_t at = sum >> SET_BITS;
     while (known[at % KNOWN] && (known[at % KNOWN] ^ sum) >> SET_BITS) at++;
     uint64_t *set = &known[at % KNOWN];
-    if (!*set && count == SETS) return SETS + 1 + sum % SHARED;
+    if (!*set && count == SETS) return SETS + least(locks, SHARED);
     if (!*set) *set = sum >> SET_BITS << SET_BITS | ++count;
     return *set % (1 << SET_BITS);
 }
 
 void set_locks(thread *t, uint64_t sum) {
     t->sum_of_locks = sum;
-    t->set = sum ? number_of_set(sum) << SET_AT : 0;
+    t->set = sum ? number_of_set(sum, t->locks) << SET_AT : 0;
     t->kind = t->in->kind | t->set;
 }
 

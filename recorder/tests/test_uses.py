@@ -55,15 +55,14 @@ class Uses(recorder.Case):
         self.assertEqual(len(sets), 48)
 
     def test_most_of_many_sets_of_locks_share_uses(self):
-        """Of 600 sets 64 have a use of their own, and all others a few: else a table with a lock per row
-        would have as many uses in each cell as it has room for."""
+        """Of 600 sets 64 have a use of their own, and all others those of as many locks: else a table with a
+        lock per row would have as many uses in each cell as it has room for."""
         source, program, record = (self.folder / name for name in ("sets.c", "sets", "sets.rec"))
         source.write_text((recorder.PROGRAMS / "many_sets.c").read_text().replace("= 24", "= 300"))
         recorder.build(source, "-O1", program)
         recorder.must(recorder.call(program, env=recorder.settings(record)))
         trace = recorder.must(recorder.convert(record)).stdout.decode()
-        writes = len(re.findall(r"(?m)^T1\.work\|w\(shared\)", trace))
-        self.assertTrue(64 <= writes <= 75, writes)
+        self.assertEqual(len(re.findall(r"(?m)^T1\.work\|w\(shared\)", trace)), 66)
 
     def test_sums_of_each_line_and_way(self):
         """By two threads, under a lock, under it and one for reading, and under none; a free is apart, and so
