@@ -72,7 +72,7 @@ static uint64_t sum_of(const struct sockaddr_storage *a, socklen_t size) {
     if (a->ss_family == AF_INET6 && IN6_IS_ADDR_V4MAPPED(&six->sin6_addr))
         return mixed(mixed(4, &six->sin6_addr.s6_addr[12], 4), &six->sin6_port, 2);
     if (a->ss_family == AF_INET6) return mixed(mixed(6, &six->sin6_addr, 16), &six->sin6_port, 2);
-    return mixed(1, a, size < sizeof *a ? size : sizeof *a);
+    return mixed(1, a, least(size, sizeof *a));
 }
 
 static void know_connection(int f) {
@@ -308,7 +308,7 @@ PUBLIC int connect(int f, const struct sockaddr *a, socklen_t n) {
 }
 
 static int note_pair(int error, int *f, uint64_t caller) {
-    if (error || f[0] < 0 || f[1] < 0 || f[0] >= DESCRIPTORS || f[1] >= DESCRIPTORS) return error;
+    if (error || !is_small(f[0]) || !is_small(f[1])) return error;
     note_descriptor(OP_WAIT, number_of(f[0]), caller);
     note_descriptor(OP_WAIT, number_of(f[1]), caller);
     is_new(f[0]);

@@ -182,10 +182,8 @@ BEFORE(int, puts, (const char *s), (s), READS(s, text(s)))
 BEFORE(int, fputs, (const char *s, FILE *f), (s, f), READS(s, text(s)); note_stream(OP_POST, f, seen))
 BEFORE(size_t, fwrite, (const void *p, size_t size, size_t n, FILE *f), (p, size, n, f),
        READS(p, array(size, n)); note_stream(OP_POST, f, seen))
-BEFORE(int, fputc, (int c, FILE *f), (c, f), note_stream(OP_POST, f, seen))
-BEFORE(int, putc, (int c, FILE *f), (c, f), note_stream(OP_POST, f, seen))
-BEFORE(int, putc_unlocked, (int c, FILE *f), (c, f), note_stream(OP_POST, f, seen))
-BEFORE(int, fputc_unlocked, (int c, FILE *f), (c, f), note_stream(OP_POST, f, seen))
+#define PUTS_CHARACTER(name) BEFORE(int, name, (int c, FILE *f), (c, f), note_stream(OP_POST, f, seen))
+PUTS_CHARACTER(fputc) PUTS_CHARACTER(putc) PUTS_CHARACTER(putc_unlocked) PUTS_CHARACTER(fputc_unlocked)
 BEFORE(int, fflush, (FILE *f), (f), note_stream(OP_POST, f, seen))
 BEFORE(int, fclose, (FILE *f), (f), note_stream(OP_POST, f, seen))
 AFTER(size_t, fread, (void *p, size_t size, size_t n, FILE *f), (p, size, n, f),
@@ -197,11 +195,9 @@ AFTER(size_t, __fread_chk, (void *p, size_t room, size_t size, size_t n, FILE *f
       note_stream(OP_WAIT, f, seen); WRITES(p, array(size, r)))
 AFTER(char *, __fgets_chk, (char *s, size_t room, int n, FILE *f), (s, room, n, f),
       note_stream(OP_WAIT, f, seen); if (r) WRITES(s, text(s)))
-AFTER(int, fgetc, (FILE *f), (f), note_stream(OP_WAIT, f, seen))
-AFTER(int, getc, (FILE *f), (f), note_stream(OP_WAIT, f, seen))
-AFTER(int, getc_unlocked, (FILE *f), (f), note_stream(OP_WAIT, f, seen))
-AFTER(int, fgetc_unlocked, (FILE *f), (f), note_stream(OP_WAIT, f, seen))
-AFTER(int, __uflow, (FILE *f), (f), note_stream(OP_WAIT, f, seen))        /* of that, where it is inlined */
+#define GETS_CHARACTER(name) AFTER(int, name, (FILE *f), (f), note_stream(OP_WAIT, f, seen))
+GETS_CHARACTER(fgetc) GETS_CHARACTER(getc) GETS_CHARACTER(getc_unlocked) GETS_CHARACTER(fgetc_unlocked)
+GETS_CHARACTER(__uflow)                /* of that, where it is inlined */
 static void got_line(uint64_t seen, FILE *f, char **line, size_t *room, ssize_t length) {
     note_stream(OP_WAIT, f, seen);
     if (length < 0) return;
