@@ -334,6 +334,20 @@ static int hold_in_cell(cell *c, uint64_t address, cell_use use, uint64_t word) 
     return IS_HELD;
 }
 
+/* A quick hook looks in that line alone where a search begins. There the use that is made now takes the place
+   of another one, which the search for that finds in the place of this one. */
+static uint64_t *bring_near(cell *c, key found, uint32_t use) {
+    static unsigned turns;
+    if (!c->log_lines || find_near(c, use)) return found.word;
+    key near = key_in(line_of_use(c, use), turns++ % KEYS_OF_LINE);
+    uint64_t word = *found.word;
+    *found.use = *near.use;
+    *found.word = *near.word;
+    *near.use = use;
+    *near.word = word;
+    return near.word;
+}
+
 uint64_t *word_of_use(cell *c, uint64_t address, uint32_t serial, uint16_t number, cell_use use) {
     if (c->owner && c->owner != serial && c->owner != READERS) return 0;
     uint32_t slot = slot_of_use(use.what, use.from);
@@ -341,7 +355,7 @@ uint64_t *word_of_use(cell *c, uint64_t address, uint32_t serial, uint16_t numbe
     cell_page *page = c->owner ? 0 : page_at(address, 0);
     if (!c->owner && !is_freed(page, address)) begin_phase(page, c, address, serial, number);
     key found = find_key(c, slot);
-    if (is_used(found)) return found.word;
+    if (is_used(found)) return bring_near(c, found, slot);
     if (c->owner != serial || !c->is_first || (is_full(c) && !has_table(c->log_lines + 1))) return 0;
     c->is_only_read &= is_read(use.what);
     return add_key(c, found, slot, 0);
