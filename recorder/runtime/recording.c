@@ -17,7 +17,8 @@ static uint64_t forgotten, sum;        /* so many needn't be in memory; the sum 
 static uint32_t contexts;              /* of the record so far */
 uint64_t changes = 1;
 static _Atomic uint64_t room;          /* records that the file has disk space for */
-static int in_memory;                  /* it has no file yet */
+int in_memory;
+static char *above;                    /* the header of the nearest process above this one that has a file */
 /* that of the last access that was held back, or of the first where there are more records since */
 static uint64_t last_position;
 static uint64_t most_cells;
@@ -372,7 +373,20 @@ void note_stranger(void) {
          "(SIGEV_THREAD), or by a pthread_create that was looked up in it (dlsym): their races are missed\n");
 }
 
-const char *own_end(void) { return has_strangers ? "threads ran whose begin isn't seen" : ENDED_WHOLE; }
+/* A process below this one says so by the header's last byte, also when this one has ended. */
+#define HAS_LOST(header) ((header)[HEADER_BYTES - 1])
+#define CHILD_IS_LOST "a process made by fork starts threads and has no record"
+
+void lose_record(void) {
+    if (!in_memory || !header || !above) return;
+    HAS_LOST(above) = 1;
+    strcpy(above + ENDED_AT, CHILD_IS_LOST);
+}
+
+const char *own_end(void) {
+    return has_strangers ? "threads ran whose begin isn't seen"
+        : HAS_LOST(header) ? CHILD_IS_LOST : ENDED_WHOLE;
+}
 
 void stop_recording(const char *reason) {
     if (!end_turns()) return;
@@ -436,11 +450,10 @@ static void forget_record(void) {
 
 static void note_whole(void) {
     char text[ENDED_BYTES];
-    note_end(own_end());
-    if (has_strangers) return;
     forget_written();
     snprintf(text, sizeof text, "%s %lx %lx", ENDED_WHOLE, written, sum);
     note_end(text);
+    if (strcmp(own_end(), ENDED_WHOLE)) note_end(own_end()); /* asked for behind it: a child may say so now */
 }
 
 static void add_state_of(thread *t) {
@@ -494,6 +507,9 @@ __attribute__((noinline)) void next_segment(thread *t) {
 /* Leaves the parent's record and goes on in memory with the header alone. */
 int leave_recording(void) {
     char *parents = header;
+    uint64_t kept = in_memory ? 0 : HEADER_BYTES;
+    if (kept && above) munmap(above, HEADER_BYTES);
+    if (kept) above = parents;
     header = 0;
     leave_file(RECORD);
     leave_file(TURNS);
@@ -507,7 +523,7 @@ int leave_recording(void) {
     held_count = 0;
     begin_counting(0);
     atomic_store(&room, CHILD_BYTES / sizeof *records);
-    munmap(parents, map_bytes());
+    munmap(parents + kept, map_bytes() - kept);
     return going_on;
 }
 
@@ -517,6 +533,7 @@ int move_to_file(void) {
     uint64_t bytes = HEADER_BYTES + written * sizeof *records;
     int moved = open_file(command, HEADER_BYTES + STEP_BYTES, 1) && write_file(header, bytes);
     keep_reserve();
+    if (!moved) lose_record();
     atomic_store(&room, written);
     in_memory = 0;
     if (moved && use_map(map_file(RECORD, header, map_bytes()))) return 1;

@@ -244,7 +244,9 @@ time_t seconds_now(void);              /* since any moment */
 /* most_records: 0, as many as there is room for; most_cells: bytes of cells (cells.h) */
 int open_recording(const char *path, uint64_t most_records, uint64_t most_cells);
 int leave_recording(void);             /* in a process made by fork; does it go on in memory? */
+extern int in_memory;                  /* it has no file yet */
 int move_to_file(void);
+void lose_record(void);                /* its process starts threads, and it can't get one */
 void close_recording(void);
 extern uint64_t segment_records;       /* after so many a segment of the record ends; 0: there is one alone */
 int is_segment_full(void);

@@ -123,11 +123,30 @@ static void tell_of_child(void) {
         tell("shb recorder: a process made by fork starts threads and runs unrecorded (%%p in SHB_RECORD "
              "gives each process a record of its own)\n");
     is_unrecorded_child = 0;
+    lose_record();
 }
 
 /* A process made by vfork uses its parent's memory and says nothing. Where nothing is recorded any more no
    system call is made: a filter of the program's may forbid it (limits.c). */
 static int is_own(void) { return recording && process && getpid() == process; }
+
+/* What a process gives up it may need to make a file: its record has one before. */
+static void give_up(void) {
+    int saved = errno;
+    thread *t = in_memory && is_own() ? enter(NEVER_YIELD) : 0;
+    if (t && begin_work(t)) move_to_file();
+    if (t) t->works = 0, leave(t);
+    errno = saved;
+}
+
+#define GIVES_UP(name) \
+    WRAPS(int, name, (word first, word second, word third)) { \
+        give_up(); \
+        return REAL_AS(name)(first, second, third); \
+    }
+GIVES_UP(setuid) GIVES_UP(seteuid) GIVES_UP(setreuid) GIVES_UP(setresuid) GIVES_UP(setfsuid)
+GIVES_UP(setgid) GIVES_UP(setegid) GIVES_UP(setregid) GIVES_UP(setresgid) GIVES_UP(setfsgid)
+GIVES_UP(setgroups) GIVES_UP(initgroups) GIVES_UP(chroot)
 
 __attribute__((destructor(101))) static void end(void) { if (is_own()) close_recording(); }
 

@@ -7,10 +7,12 @@ import re
 import shutil
 import signal
 import subprocess
+import unittest
 
 import recorder
 
 ARCHER = next(iter(sorted(pathlib.Path("/usr/lib").glob("llvm-*/lib/libarcher.so"))), None)
+AS_ROOT = unittest.skipUnless(os.geteuid() == 0, "only root can give up its rights")
 UNSEEN = (b"shb recorder: the program uses OpenMP's %s, of which not all is recorded: races may be false, or "
           b"missed\n")
 
@@ -79,6 +81,26 @@ class Processes(recorder.Case):
     def test_a_child_without_a_record_says_so(self):
         ran = recorder.must(recorder.call(self.program("daemon.c"), env=self.settings("one.rec")))
         self.assertEqual(ran.stderr.count(b"a process made by fork starts threads and runs unrecorded"), 1)
+
+    @AS_ROOT
+    def test_a_child_that_gives_up_its_rights_or_its_root_before_it_starts_threads(self):
+        program = self.program("gives_up.c")
+        for way in "setuid", "chroot":
+            with self.subTest(way):
+                ran = recorder.must(recorder.call(program, way, env=self.settings(f"{way}%p.rec")))
+                lines = sorted(sorted(racing_lines(record)) for record in self.folder.glob(f"{way}*.rec"))
+                self.assertEqual((ran.stderr, lines), (b"", [[], sorted(marked("gives_up.c"))]))
+
+    @AS_ROOT
+    def test_the_run_is_not_whole_if_a_child_with_threads_can_have_no_record(self):
+        program = self.program("gives_up.c")
+        for words in (), ("its parent has ended",):
+            with self.subTest(words):
+                ran = recorder.call(recorder.COMMAND, "-o", self.folder / "results", program, "call", *words,
+                                    env={**os.environ, "SHB": str(recorder.SHB)})
+                self.assertEqual(ran.returncode, 125, ran.stderr)
+                self.assertIn(b"is not the whole run: a process made by fork starts threads and has no "
+                              b"record", ran.stderr)
 
     def test_a_record_in_use_is_not_cut(self):
         program, second = self.program("deadlock.c"), self.program("mutex_ok.c")

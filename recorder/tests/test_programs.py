@@ -59,7 +59,7 @@ def load_tests(loader, tests, pattern):
               "ways_out.c", "status.c", "loop.c", "copies.c", "long_race.c", "calls.c", "contexts.c",
               "both_orders.c",
               "calls_cxx.cc", "inlined.cc", "headers.cc", "filled.cc", "own_files.c", "own_limits.c",
-              "versions.c", "news.cc", "no_proc.c", "many_in_turn.c", "sigev_thread.c",
+              "versions.c", "news.cc", "no_proc.c", "gives_up.c", "many_in_turn.c", "sigev_thread.c",
               "spin.c", "short_threads.c", "in_turn.c", "library_unchanged.c", "fibers.c", "thread_names.c",
               "members.c", "members.cc", "elements.c", "blocks.cc", "allocated.cc", "allocator.c",
               "replaced.cc", "pretended.c", "rights.c", "forms.cc", "locals.c", "waits.c", "starves.c",
