@@ -44,7 +44,7 @@ static int means_more(const entry *e) {
 int means_access(const entry *e) { return !e->is_late || known[e->number].accessed; }
 
 static void cut_access(const entry *e, u64 end) {
-    note_caller(e->caller);
+    note_caller_of(e);
     cut(e->address, end);
 }
 

@@ -92,6 +92,8 @@ int in_rust_library(const char *path);
 enum { PLACE_BYTES = 1000 };           /* shb takes lines of 4,096 bytes */
 void read_modules(char *header);
 void note_caller(u64 caller);
+void note_caller_of(const entry *e);   /* with what is done there */
+void note_call_site(u64 caller, u64 function);
 void find_places(void);                /* of all callers that were noted */
 part place_of(u64 caller);
 part line_end_of(u64 caller);          /* ")|" and its place, with WIDE bytes that may be read */

@@ -29,7 +29,7 @@ static void meet_record(const entry *e) {
     if (is_of_stack(e->operation)) note_call(e);
     if (e->operation == OP_NAME || is_of_stack(e->operation)) return;
     if (e->operation == OP_FENCE) has_fences = 1;
-    note_caller(e->caller);
+    note_caller_of(e);
 }
 
 static void meet_name(const entry *e) {

@@ -28,8 +28,9 @@ typedef struct {
     char *text;
     inlined_frame *frames;
     u32 site;                          /* the same where the location is, once it was asked for */
-    uint8_t is_own, is_unseen;
+    uint8_t is_own, is_unseen, does_more;        /* does_more: than to ask for memory and to free it */
 } place;
+typedef struct { u64 caller, function; } call_site;
 static INTERNED(place) places;         /* by callers */
 static place nowhere;                  /* of a caller that wasn't noted */
 
@@ -341,6 +342,11 @@ static u32 caller_number(u64 caller) {
 
 void note_caller(u64 caller) { caller_number(caller); }
 
+void note_caller_of(const entry *e) {
+    const int does_more = e->operation < OP_START || e->operation > OP_FREE;
+    place_at(caller_number(e->caller))->does_more |= does_more;
+}
+
 /* The addresses of the callers in a module, sorted. */
 static u64 *addresses_in(module *m, u64 *count) {
     u64 *found = zeroed(places.numbers.count + 1, sizeof *found);
@@ -475,21 +481,64 @@ static int is_hooked(module *m, u64 caller) {
     return !s || map_find(&begins, s->at, 0);
 }
 
-/* Names the frames of a caller; its location is the first one outside of the system's headers, else
-   the first. */
+/* ---- functions that do no more than hand on to free, or from malloc: their callers do that ---- */
+static map doing;                      /* all others, by their names */
+static VECTOR(call_site) calls;
+
+void note_call_site(u64 caller, u64 function) {
+    static map met;
+    if (map_adds(&met, caller, function)) *PUSH(calls) = (call_site){caller, function};
+}
+
+static inlined_frame *noted_frames(u64 caller) {
+    return place_at(map_find(&places.numbers, caller, 0))->frames;
+}
+
+static int hands_on(const inlined_frame *f) {
+    return *f->function && !map_find_bytes(&doing, f->function, strlen(f->function));
+}
+
+/* All functions that a caller is in. */
+static void add_doing(const inlined_frame *f) {
+    for (; f; f = f->outer) map_text(&doing, f->function);
+}
+
+static int is_own_frame(const inlined_frame *f) { return f->line && !f->in_system_file; }
+
+/* Also what calls one of them, and what another module than the program's own calls. */
+static void find_doing(void) {
+    EACH(p, places.at, places.numbers.count)
+        if (p->does_more) add_doing(p->frames);
+    for (u64 before = -1; before != doing.count;) {
+        before = doing.count;
+        for (u64 k = calls.count; k--;) {
+            inlined_frame *from = noted_frames(calls.at[k].caller),
+                          *to = outermost(noted_frames(calls.at[k].function));
+            const module *m = module_at(calls.at[k].caller);
+            if (!m || m->in_system || m->is_recorder) add_doing(to);
+            if (!to || !hands_on(to)) add_doing(from);
+        }
+    }
+}
+
+/* Names the frames of a caller; its location is the first one outside of the system's headers, if it can be
+   in a function that does more than hand on, else the first. */
 static void find_place(place *p) {
     module *m = module_at(p->caller);
     inlined_frame *chosen = 0;
+    int rank = 0;
     for (inlined_frame *f = p->frames; f; f = f->outer) {
+        const int own_rank = is_own_frame(f) ? 3 - hands_on(f) : f->line != 0;
         f->location = f->line ? location_of(f->path, f->line) : address_place(p->caller);
-        if (f->line && !f->in_system_file) name_lambda(f);
-        if (f->line && (!chosen || (chosen->in_system_file && !f->in_system_file))) chosen = f;
+        if (is_own_frame(f)) name_lambda(f);
+        if (own_rank > rank) chosen = f;
+        if (own_rank > rank) rank = own_rank;
     }
     char *address = chosen ? 0 : address_place(p->caller);
     p->text = line_end(chosen ? chosen->location : address);
     free(address);
     p->length = strlen(p->text);
-    p->is_own = m && !m->is_recorder && !(chosen ? chosen->in_system_file : m->in_system);
+    p->is_own = m && !m->is_recorder && (chosen ? rank == 3 : !m->in_system);
     const inlined_frame *last = outermost(p->frames);
     p->is_unseen = last && last->in_rust_library && !is_hooked(m, p->caller);
     has_unseen |= p->is_unseen;
@@ -526,6 +575,7 @@ void find_places(void) {
                 && !(has_callers(m) && ask_one(reader_of(m), ASK_OWN_LINES, 0, 0, &yes)));
         if (!m->is_late) ask_for_lines(m);
     }
+    find_doing();
     find_asked_places();
 }
 

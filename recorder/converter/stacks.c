@@ -191,7 +191,8 @@ void note_call(const entry *e) {
     has_calls = 1;
     note_frame(e);
     note_hooked(e->address);
-    if (file) note_caller(e->address);
+    note_caller(e->address);
+    note_call_site(e->caller, e->address);
 }
 
 /* A record of calls. */
