@@ -27,7 +27,7 @@ class Reader:
         self.uses, self.frees, self.locals = [], [], collections.defaultdict(list)
         # of the uses: their events, in order; their places, of fences without a name
         self.events, self.by_name = [], collections.defaultdict(list)
-        self.parts, self.repeated = [], set()
+        self.parts, self.repeated, self.again = [], set(), {}
         lines = [line.rstrip("\r") for line in trace.decode("latin-1").split("\n")]
         self.lines = events = list(filter(None, lines))
         # the system's function of a frame, of a stack's innermost
@@ -89,6 +89,9 @@ class Reader:
             elif kind == "stack":
                 number, outer, *frames = map(int, rest.split())
                 self.innermost[number] = self.frames[frames[0] - 1] if frames else self.innermost.get(outer)
+            elif kind == "again":
+                block, event, thread, freed = rest.split("\t")
+                self.again[block] = int(event), thread, freed
             elif kind == "free":
                 self.frees.append(tuple(map(int, rest.split(" "))))
             elif kind == "local":
@@ -470,6 +473,9 @@ class Group:
     # ---- freed ----
     def check_freed(self):
         frees = set(self.fact["frees"])
+        if "is_again" in self.fact:
+            yield from self.check_again(frees)
+            return
         for line in frees:
             if not any(access.is_free for access in self.at(line)) or line not in self.lines:
                 yield f"no free at {line}"
@@ -482,6 +488,30 @@ class Group:
                                       if any(other in frees for other in pair - {line})}:
             yield "other uses"
         yield from self.check_after()
+
+    def check_again(self, frees):
+        found = self.stale()
+        if not found or set(found) != set(self.fact["after"]):
+            yield f"nothing orders {sorted(found)} behind the allocation"
+        if frees != set(found.values()):
+            yield "freed elsewhere"
+
+    def stale(self):
+        """The racing lines with an access that nothing orders behind its block's allocation, each with where
+        the one was freed that had been there."""
+        clocks, reader, given, found = Clocks(), self.reader, {}, {}
+        mine = {access.number: access for access in self.traced if access.location in self.lines}
+        for number, line in enumerate(reader.lines, 1):
+            given.update({block: (thread, clocks.of[thread][thread], freed)
+                          for block, (event, thread, freed) in reader.again.items() if event == number})
+            access = mine.get(number)
+            of_block = re.search("#([0-9]+)", access.name) if access else None
+            if of_block and of_block[1] in given:
+                thread, time, freed = given[of_block[1]]
+                if access.thread != thread and clocks.of[access.thread][thread] <= time:
+                    found[access.location] = freed
+            clocks.event(line, 0)
+        return found
 
     def check_after(self):
         for line in self.fact["after"]:

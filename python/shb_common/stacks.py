@@ -18,7 +18,7 @@ BLOCK = rb"(?s).*#([0-9]{1,18})(?:\+[0-9]+)?"  # a variable in a block, as the r
 ORDERS = b"relaxed", b"acquire", b"release", b"both"
 USES = b"load", b"store", b"update", b"fence"
 NUMBERED = b"stack", b"block", b"free"
-NAMED = b"frame", b"system-frame", b"thread", b"source", b"line", b"local", b"use"
+NAMED = b"frame", b"system-frame", b"thread", b"source", b"line", b"local", b"use", b"again"
 OTHER = "doesn't have the stacks of this trace"
 MOST_DEEP = 200  # calls of a stack that are looked at
 MOST_FRAMES = 2_000  # of these calls, of which inlined code has several each
@@ -28,6 +28,10 @@ SUM_DIGITS = 16  # of a line's text
 
 # A function and the place in it. The location is empty if it called code without hooks, which called on.
 Frame = collections.namedtuple("Frame", "function location in_system")
+
+
+# Before which event which thread allocated a block, and where the one that had been there was freed.
+Again = collections.namedtuple("Again", "event thread freed")
 
 
 class BadStacks(Exception):
@@ -70,6 +74,7 @@ class Stacks:
         self.locals = {}
         self.numbers, self.frames, self.calls, self.threads, self.blocks = (), [None], {}, {}, {}
         self.uses = []  # of atomics, as they happened
+        self.again = {}  # by the number of a block that came again, as `Again`
         self.free_starts, self.free_ends = array.array("Q"), array.array("Q")
         if path:
             with open_regular(path) as file:
@@ -117,6 +122,8 @@ class Stacks:
             self.locals.setdefault(second, []).append((whole(first), name))
         elif kind == b"use":
             self.uses.append(AtomicUse(whole(first), second, *more[:2], *use_of(*more[2:])))
+        elif kind == b"again":
+            self.again[whole(first)] = Again(whole(second), *more)
         elif more:
             raise ValueError
         elif kind == b"thread":
@@ -176,8 +183,13 @@ class Stacks:
 
     def of_variable(self, name):
         """Where the block of a variable was allocated."""
-        found = re.fullmatch(BLOCK, name) if b"#" in name else None
-        return self.stack(self.blocks.get(int(found[1]), 0)) if found else ()
+        return self.stack(self.blocks.get(block_of(name), 0))
+
+
+def block_of(name):
+    """The number of the block that a variable is in, or None."""
+    found = re.fullmatch(BLOCK, name) if b"#" in name else None
+    return found and int(found[1])
 
 
 def events_in(file):

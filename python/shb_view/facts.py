@@ -18,6 +18,7 @@ from shb_view.words import Code, Own, listed, lock_name, place
 MOST_NAMED = 3  # lines in a sentence
 FLAG = "make it atomic if it is a flag or a counter; else "
 USED = "The use at {} came after the free here: a use after free."
+FREED = "don't use it at {} once it may be freed at {}, or free it after that use."
 STEP = "test and set it in one step, as by an atomic exchange, or "
 OF_LIBRARY = rb"(?:^|[.:])_[_A-Z]|\._vptr|\.so(?:\.[0-9]+)*:"  # what the program can't make atomic
 DIGITS = rb"[0-9]+"
@@ -369,13 +370,22 @@ def freed(racing):
                       worded("the use at {}", at) if used else "another free of it")
     after = used_after(racing, frees)
     said = {"frees": names_of(frees), "uses": list(map(text, used)), "after": names_of(after)}
-    remedy = (worded("don't use it at {} once it may be freed at {}, or free it after that use.", at, frees)
-              if used else ["free it once."])
+    remedy = worded(FREED, at, frees) if used else ["free it once."]
     tag = worded("freed at {} while in use" if used else "freed twice at {}", frees)
     if after:
         tag = worded("used at {} after it was freed at {}", after, frees)
         sentence += [" ", *worded(USED, after)]
     return Fact("freed", said, tag, [sentence], remedy)
+
+
+def given_again(lines, frees):
+    """Lines use a block, and nothing orders that behind its allocation: what they used there was freed."""
+    said = {"frees": list(map(text, frees)), "after": list(map(text, lines)), "is_again": True}
+    lines, frees = places(lines), places(frees)
+    sentence = worded("the block was freed at {} and allocated again, and nothing orders that before the "
+                      "use at {}: a use after free.", frees, lines)
+    tag = worded("used at {} after it was freed at {}", lines, frees)
+    return Fact("freed", said, tag, [sentence], worded(FREED, lines, frees))
 
 
 def not_atomic(racing):

@@ -6,10 +6,11 @@ import collections
 import tempfile
 
 from shb_common.report import Access, event_of
+from shb_common.stacks import block_of
 from shb_common.variables import without_end
 from shb_common.words import Refused
 from shb_view.analyser import Analyser
-from shb_view.facts import READS, places, verb_of, worded
+from shb_view.facts import READS, given_again, in_this, places, verb_of, worded
 from shb_view.held import called
 from shb_view.trace import OPENS, line_of
 from shb_view.words import Code, listed, place
@@ -23,8 +24,10 @@ TOO_LONG = ["The remedy isn't told, since the trace is too long to try it."]
 
 # What a remedy of some variables changes: `before` has by event the lines that come before it then, and
 # `moved` by each event that stands elsewhere the one that it comes before. `remedy` says it, as parts; `tag`
-# is what is said in place of the fact's, if anything.
-Change = collections.namedtuple("Change", "names before moved remedy tag", defaults=({}, None, None))
+# is what is said in place of the fact's, if anything. `stale` has locations, each with where a block was
+# freed: the one of number N reads the variable N there, which the block's next allocation writes.
+Change = collections.namedtuple("Change", "names before moved remedy tag stale",
+                                defaults=({}, None, None, ()))
 
 
 def trials_of(found, facts, counting):
@@ -40,7 +43,32 @@ def trials_of(found, facts, counting):
         if one.fact.form in MOVED and one.fact.remedy and not facts.has_far(one.group):
             moves = [move_of(one, counting)] * (one.fact.form == "no-lock") + [*moves_of(one, counting)]
             trials.update({(one.group.names, number): move for number, move in enumerate(moves) if move})
+        stale = stale_of(one, facts, counting) if one.fact.form in ("no-lock", "apart") else None
+        if stale:
+            trials[one.group.names, None] = stale
     return trials
+
+
+def stale_of(found, facts, counting):
+    """What shows whether nothing orders uses behind the allocation of their block, where another one had
+    been. None if not all blocks of a group are such ones, or an atomic may order a use."""
+    gathered, stacks = facts.kinds.gathered, facts.kinds.stacks
+    before, lines = collections.defaultdict(list), {}
+    for race in gathered.races(found.group.names):
+        again = stacks.again.get(block_of(race.accesses[0].name))
+        if not again or counting.are_apart and counting.are_apart(again.event, race.events[1]):
+            return None
+        for event, access in zip(race.events, race.accesses):
+            pairs = facts.pairs.get((again.thread, access.thread), ())
+            if any(pair.store.event >= again.event and pair.load.event <= event for pair in pairs):
+                return None
+            if access.thread != again.thread:
+                line = access.location, again
+                if line not in lines:
+                    lines[line] = len(lines)
+                    before[again.event].append(b"%b|w(%d)|" % (again.thread, lines[line]))
+                before[event].append(b"%b|r(%d)|" % (access.thread, lines[line]))
+    return Change(set(counting.groups), before, stale=[(line, again.freed) for line, again in lines])
 
 
 def moves_of(found, counting):
@@ -202,9 +230,11 @@ def marked(mark, line):
 
 def after_trials(found, facts, trials, left, again):
     """The groups with what trials say of remedies; `again` makes them anew, without what was refuted."""
-    good, moves, refuted = {}, {}, set()
+    good, moves, refuted, stale = {}, {}, set(), {}
     for (key, change), its in zip(trials.items(), left):
-        if not change.moved:
+        if change.stale:
+            stale[key[0]] = [line for number, line in enumerate(change.stale) if b"%d" % number in its]
+        elif not change.moved:
             good[key] = change.names - its
             refuted |= its
         elif not its:
@@ -217,6 +247,9 @@ def after_trials(found, facts, trials, left, again):
         """A group with the remedy that was tried, or without one; of a mixed one each part."""
         if found.fact.parts:
             return found._replace(fact=facts.mixed(list(map(tried, found.fact.parts))))
+        if stale.get(found.group.names):
+            lines, frees = map(dict.fromkeys, zip(*stale[found.group.names]))
+            return found._replace(fact=in_this(facts.whole, given_again(lines, frees)))
         return with_trial(found, facts.whole, moves, good, len(left) < len(trials))
     return list(map(tried, found))
 

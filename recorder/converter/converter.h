@@ -154,7 +154,8 @@ typedef struct {
     u32 thread, node;                  /* node: of the file of stacks, where it was allocated; or 0 */
     some_threads users;
     u32 piece;                         /* of a block of one thread, if it has been asked for */
-    u64 shared_at;                     /* the record from which on it has several users */
+    /* the record from which on it has several users; behind that, and of other blocks, where it is freed */
+    union { u64 shared_at, freed_from; };
     uint8_t stack, named, freed;
 } block;
 typedef struct {
@@ -186,7 +187,7 @@ void begin_memory_pass(void);
 block *meet_block(const entry *e);
 block *block_at(u64 address);          /* or null */
 u32 number_at(u64 address);            /* of this block, or 0 */
-void end_block(u64 address);           /* it is freed */
+void end_block(u64 address, u64 caller);                     /* it is freed */
 void write_blocks(const char *path);   /* those that are there, for carry_blocks */
 u32 block_count(void);
 u32 block_number(const block *b);      /* from 1; of null 0 */
@@ -219,6 +220,8 @@ void keep_stack(u32 number);           /* it is written, though no event has it 
 void note_crash(const entry *e);       /* a record OP_CRASH */
 void say_crash(void);                  /* at the end */
 void note_free(u64 first, u64 last);   /* the events of one call that frees a block */
+/* a thread allocated a block where this one had been */
+void note_again(u32 t, const block *b, const block *earlier);
 /* of a piece or an object: this event of a thread is of it */
 void note_name(u64 at, u32 block, u64 event, u32 t);
 /* of an atomic that several threads use: what stores, and a thread's first load of another's store */
@@ -248,6 +251,7 @@ void begin_spans(void);                /* of each trace */
 void open_uses(const char *path);
 int is_for_page(void);
 int takes_piece(u32 piece);            /* has it the accesses of this piece? */
+int is_block_in_race(u32 number);
 void step_trace(u64 number);           /* before each event of the run, by its number */
 void end_trace(const char *why);
 int is_over(void);                     /* it has no more events */

@@ -25,7 +25,7 @@ static int is_for_object(enum operation operation) {
 static void meet_record(const entry *e) {
     find_users(e);
     if (is_plain(e->operation)) return;
-    if (e->operation == OP_FREE) end_block(e->address);
+    if (e->operation == OP_FREE) end_block(e->address, e->caller);
     if (is_of_stack(e->operation)) note_call(e);
     if (e->operation == OP_NAME || is_of_stack(e->operation)) return;
     if (e->operation == OP_FENCE) has_fences = 1;
@@ -90,13 +90,15 @@ static void write_events(const entry *e) {
         u64 before = written;
         access_events(e);
         if (e->operation == OP_FREE) note_free(before + 1, written);
+        if (e->operation == OP_FREE) end_block(e->address, own_place(e->thread, e->caller));
     }
     if (means_access(e)) note_record(e);
 }
 
-static void name_block(block *b, const entry *e) {
+static void name_block(block *b, const entry *e, const block *earlier) {
     b->node = stack_at(e->thread, e->caller);
     b->caller = own_place(e->thread, e->caller);
+    if (earlier && is_block_in_race(block_number(b))) note_again(e->thread, b, earlier);
 }
 
 /* A record is cut if no pass would end soon, or of so many threads: its beginning is a record too. The pass
@@ -114,7 +116,7 @@ static inline __attribute__((always_inline)) void pass(void (*step)(const entry 
         if (!is_first && is_passed_over(i)) continue;
         const entry e = entry_at(i);
         const enum operation operation = e.operation;
-        block *b = 0;
+        block *b = 0, *earlier = 0;
         if (!is_plain(operation)) {
             if (operation == OP_SIZE) continue;
             if (operation == OP_FORK && !meet_fork(&e)) {
@@ -123,10 +125,11 @@ static inline __attribute__((always_inline)) void pass(void (*step)(const entry 
                 break;
             }
             if (operation == OP_START) meet_start(&e);
+            if (operation == OP_ALLOC) earlier = block_at(e.address);
             if (operation == OP_START || operation == OP_ALLOC) b = meet_block(&e);
         }
         step(&e);
-        if (b && step == write_events && operation == OP_ALLOC) name_block(b, &e);
+        if (b && step == write_events && operation == OP_ALLOC) name_block(b, &e, earlier);
         if (extra_steps <= MAX_EXTRA_STEPS || is_for_page()) continue;
         shortened = "where long ranges, deep stacks, held locks or many threads take too much work";
         record_count = i;

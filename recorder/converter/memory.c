@@ -93,9 +93,11 @@ inline u32 number_at(u64 address) {
 
 block *block_at(u64 address) { return block_of(number_at(address)); }
 
-void end_block(u64 address) {
+void end_block(u64 address, u64 caller) {
     block *b = block_at(address);
-    if (b && b->at == address) b->freed = 1;
+    if (!b || b->at != address) return;
+    if (b->freed || b->users != SEVERAL) b->freed_from = caller;
+    b->freed = 1;
 }
 
 /* Only those of the thread that is always there. */

@@ -125,6 +125,8 @@ void begin_spans(void) {
     span_last = is_for_page() ? 0 : -1;
 }
 
+int is_block_in_race(u32 number) { return is_for_page() && map_find(&page.blocks, number, 0); }
+
 /* Is a piece's variable in a race? Each is looked up once. */
 static int is_racing(u32 number) {
     static VECTOR(uint8_t) answers;

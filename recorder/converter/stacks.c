@@ -15,6 +15,9 @@
        thread NAME TAB NODE                             where the thread was created
        block NUMBER NODE                                where the block was allocated
        free FIRST LAST                                  these events are of one call that freed a block
+       again NUMBER TAB EVENT TAB THREAD TAB LOCATION
+           before this event the thread allocated a block, which has a variable in a race, where one had been
+           that was freed at the location
        local EVENT TAB VARIABLE TAB NAME
            from this event on the variable, which is on a stack, is this local of a function that the stack's
            thread is in, as "x.head of main"; or of none that is known, where the name is empty. With 0 for
@@ -418,6 +421,13 @@ void note_fence(const entry *e) {
 
 void note_free(u64 first, u64 last) {
     if (with_stacks && first <= last) fprintf(lines, "free %lu %lu\n", first, last);
+}
+
+void note_again(u32 t, const block *b, const block *earlier) {
+    if (!with_stacks || !earlier->freed || !is_own_place(earlier->freed_from)) return;
+    part place = place_of(earlier->freed_from);
+    fprintf(lines, "again %u\t%lu\t%s\t%.*s\n", block_number(b), written + 1, thread_name(t),
+            (int)place.length, place.at);
 }
 
 /* ---- the tables ---- */
