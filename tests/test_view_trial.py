@@ -204,6 +204,33 @@ class Trials(program.Case):
             self.assertEqual((group["moved"], found), (moved, remedy))
         self.assertEqual(self.faults(group, moved=[(5, 6)]), ["no-lock of ['x']: the move leaves a race"])
 
+    def test_memory_that_came_again(self):
+        """A use that nothing orders behind the allocation is of what was freed; else it is one race more."""
+        block, handed = "f.c:9#2", ["main|acq(m)|f.c:3", "main|rel(m)|f.c:3"]
+        begin, end = ["main|fork(A)|f.c:1"], [f"main|w({block})|f.c:5", f"A|r({block})|f.c:7"]
+        beside = ["again 2\t2\tmain\tf.c:2"]
+        group, remedy = self.group([*begin, *end], beside)
+        self.assertEqual((group["form"], group["frees"], group["after"]), ("freed", ["f.c:2"], ["f.c:7"]))
+        self.assertTrue(remedy.startswith("don't use it at f.c:7 once it may be freed at f.c:2"))
+        for wrong in ({"after": ["f.c:5"]}, {"frees": ["f.c:5"]}):
+            self.assertNotEqual(self.faults(group, **wrong), [])
+        taken = [line.replace("main", "A") for line in handed]
+        ordered = [*begin, *handed, end[0], *taken, end[1]]
+        self.assertEqual(self.group(ordered, beside)[0]["form"], "no-lock")
+        self.assertEqual(self.group([*begin, *end])[0]["form"], "no-lock")
+
+    def test_what_no_rule_is_taken_of(self):
+        """A line that fills new blocks under a lock, and one that holds one of several alike each time."""
+        filled = ["main|acq(m)|f.c:2", "main|w({})|f.c:3", "main|rel(m)|f.c:4", "main|fork(A)|f.c:4",
+                  "main|w({})|f.c:5", "A|r({})|f.c:7"]
+        for name, form in (("x", "without"), ("f.c:9#2", "apart")):
+            group, _ = self.group([line.format(name) for line in filled], held={"f.c:3": "m"})
+            self.assertEqual(group["form"], form)
+        lines = ["main|fork(A)|f.c:1", "main|w(x)|f.c:3", "A|w(x)|f.c:7", "A|w(x)|f.c:7"]
+        for other, form in (("m[2]", "apart"), ("k", "without")):
+            both = f"held\t2\t0\tunder\t1\tm[1]\tunder\t1\t{other}"
+            self.assertEqual(self.group(lines, held={"f.c:3": "m[1]", "f.c:7": both})[0]["form"], form)
+
     def test_a_use_that_a_release_before_tells_nothing_of(self):
         """Two behind one; one that stands for several; the lock that a thread takes of another; a barrier."""
         for lines, beside, more in (([*GIVEN[:4], "A|r(y)|f.c:5", *GIVEN[3:]], (), []),

@@ -29,8 +29,9 @@ Access = collections.namedtuple("Access", "number variable kind free")
 # The event of a thread in which it creates or joins another one.
 Step = collections.namedtuple("Step", "thread event line")
 
-# What a thread gave at once: the first and last event of its releases, of what, and where.
-Release = collections.namedtuple("Release", "begin end thread lock location")
+# What a thread gave at once: the first and last event of its releases, of what, where, and whether it is no
+# lock.
+Release = collections.namedtuple("Release", "begin end thread lock location is_post")
 
 # An event that stands for repeats between the last one alike (`since`, or 0) and itself.
 Repeated = collections.namedtuple("Repeated", "thread word since event")
@@ -175,9 +176,9 @@ class Counting:
         takes = (sign == b">") == (to == thread) if sign else is_barrier
         if not takes:
             last, what = self.releases.get(thread), (thread, base, line[len(thread) + len(lock) + 7:])
-            is_more = last and number - last.end <= 1 + bool(own) and last[2:] == what
+            is_more = last and number - last.end <= 1 + bool(own) and last[2:5] == what
             begin = last.begin if is_more else number - bool(own)
-            self.releases[thread] = Release(begin, number, *what)
+            self.releases[thread] = Release(begin, number, *what, b"@" in lock)
 
     def last_before(self, part, thread):
         """The last event of a thread before a part, or 0."""

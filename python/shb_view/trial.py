@@ -41,7 +41,8 @@ def trials_of(found, facts, counting):
         trials[keys] = Change(names, ordered(facts.kinds.stacks.uses, pairs))
     for one in found:
         if one.fact.form in MOVED and one.fact.remedy and not facts.has_far(one.group):
-            moves = [move_of(one, counting)] * (one.fact.form == "no-lock") + [*moves_of(one, counting)]
+            moves = [*moves_of(one, counting, True), one.fact.form == "no-lock" and move_of(one, counting),
+                     *moves_of(one, counting, False)]
             trials.update({(one.group.names, number): move for number, move in enumerate(moves) if move})
         stale = stale_of(one, facts, counting) if one.fact.form in ("no-lock", "apart") else None
         if stale:
@@ -71,9 +72,9 @@ def stale_of(found, facts, counting):
     return Change(set(counting.groups), before, stale=[(line, again.freed) for line, again in lines])
 
 
-def moves_of(found, counting):
+def moves_of(found, counting, are_posts):
     """Of each racing line without a lock the move of its accesses before the last release of their threads,
-    if each has its own: by that a thread may hand on what the line still uses."""
+    if each has its own: by that a thread may hand on what the line still uses. All are posts, or not all."""
     locks, names = counting.access_kinds.locks, found.group.names
     for site in found.sites:
         if not site.partners or site.accesses[b"f"] or site.is_atomic() or site.bare < site.total:
@@ -82,7 +83,8 @@ def moves_of(found, counting):
                    for name in names for word in (b"r", b"w")}
         moved = {number: (release, access) for access, its in follows.items()
                  for release, numbers in (its or {}).items() for number in numbers}
-        if None in follows.values() or not are_moved(site, found, counting, moved.keys()):
+        if (None in follows.values() or not are_moved(site, found, counting, moved.keys())
+            or all(release.is_post for release, _ in moved.values()) != are_posts):
             continue
         before, after = collections.defaultdict(list), {}
         for _, (release, access) in sorted(moved.items()):
@@ -109,19 +111,23 @@ def move_of(found, counting):
     repeating = {one.thread for name in found.group.names for one in counting.again.get(name, ())}
     if creator in repeating or not uses_once(found.uses, creator):
         return None
-    step, event, where = None, 0, ""
+    step, event, where, when = None, 0, "", ""
     if words == {b"r"}:
         step = last_join(others, creator, counting.ends, events)
-        event, where = step and step.event + 1, "after the join"
+        event, where, when = step and step.event + 1, "after the join", "before the join"
     elif words == {b"w"} and not repeating and all(uses_once(found.uses, other, False) for other in others):
         step = min((counting.begins[other] for other in others), key=lambda it: it.event)
-        event, where = step.event, "before the thread's creation"
+        event, where, when = step.event, "before the thread's creation", "after the thread's creation"
     if not step or not are_in_one(counting.access_kinds.stacks, events, step.event):
         return None
     moved = [gathered.accesses[event] for event in events]
-    at = places(dict.fromkeys(access.location for access in moved))
+    lines, to = {access.location for access in moved}, place(event_of(without_end(step.line)).location)
+    at, more = ([site for site in found.sites if site.partners and (site.location in lines) == is_moved]
+                for is_moved in (True, False))
     return Change(set(found.group.names), {event: list(map(line_of, moved))}, dict.fromkeys(events, event),
-                  worded("move {} {} at {}.", at, where, place(event_of(without_end(step.line)).location)))
+                  worded("move {} {} at {}.", at, where, to),
+                  [*worded("{} {} {} at {}", at, verb_of(at), when, to),
+                   *worded("; {} {}", more, verb_of(more)) * bool(more)])
 
 
 def are_in_one(stacks, events, step):
@@ -258,7 +264,8 @@ def with_trial(found, whole, moves, good, is_too_long):
     fact = found.fact
     move = moves.get(found.group.names)
     if move:
-        tag = fact.tag if fact.form == "freed" or not move.tag else move.tag
+        tag = [*move.tag, *["; ", *fact.tag] * (fact.form == "freed")]
+        tag = fact.tag if fact.said.get("after") else tag
         fact = fact._replace(said={**fact.said, "moved": sorted(move.moved.items())}, tag=tag,
                              remedy=[*move.remedy, TRIED[whole]])
     elif not all(good.get(keys_of(pairs), set()).issuperset(its) for its, pairs in fact.handed):

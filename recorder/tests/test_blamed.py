@@ -92,5 +92,7 @@ class Blamed(recorder.Case):
         for line, place in itertools.zip_longest(alerts, document["places"]):
             more = document["groups"][place["group"] - 1].get("lines", ())  # of which a headline names three
             self.assertIn(line, {*re.findall(r"[\w.]+:\d+", place["headline"]), *more})
+            moved = re.match("move (.*?) (?:before|after) ", place["remedy"])
+            self.assertIn(line, re.findall(r"[\w.]+:\d+", moved[1]) if moved else [line])
         return {(place["headline"], place["remedy"]) for place in document["places"]
                 if "group" in place and document["groups"][place["group"] - 1]["form"] == form}
