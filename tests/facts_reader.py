@@ -357,6 +357,8 @@ class Group:
             one, form = (self.alone([name for name in self.fact["group"] if self.base(name) == variable]),
                          self.fact["form"])
             for earlier in KNOWN[1:KNOWN.index(form)]:
+                if (earlier, form) == ("freed", "without"):  # of all together
+                    continue
                 applies = getattr(one, "has_" + earlier.replace("-", "_"), None)
                 if one.pairs and applies and applies():
                     yield f"{earlier} comes first of {variable}, and holds"
@@ -673,14 +675,29 @@ class Group:
         by_line = collections.defaultdict(list)
         for access in uses:
             by_line[access.location].append(self.has(access, of.get(access.variable)))
-        holding = [line for line in by_line if all(by_line[line])]
+        holding = [line for line in by_line if all(by_line[line]) and not self.fills(line)]
         lacking = [line for line in self.lines if not all(by_line[line])]
         bare = all(not access.held and not access.shared for access in uses if access.location in lacking)
         words = lambda lines: {access.word for access in uses if access.location in lines}
         holders = {access.variable for access in uses if access.location in holding}
         return bool(holding and lacking) and self.variables <= holders and (
             "w" in words(holding) or "r" not in words(lacking) or self.is_beside(of)) and (
-            bare or any(any(by_line[line]) for line in lacking) or len(holding) > len(lacking))
+            bare or any(any(by_line[line]) for line in lacking) or len(holding) > len(lacking)) and not any(
+            any(by_line[line]) and self.holds_alike(line, of) for line in lacking)
+
+    def fills(self, line):
+        """Whether a line that doesn't race writes variables in blocks alone, each once."""
+        its = self.at(line)
+        return (line not in self.lines and all(access.word == "w" and "#" in access.name for access in its)
+                and sum(access.count for access in its) == len({access.variable for access in its}))
+
+    def holds_alike(self, line, of):
+        """Whether each access of a line holds one of several locks that differ by digits alone from that of
+        its variable."""
+        kinds = {re.sub("[0-9]", "", lock) for lock in of.values()}
+        its = [{lock for lock in access.held | access.shared if re.sub("[0-9]", "", lock) in kinds}
+               for access in self.used(line)]
+        return all(its) and len(set().union(*its)) > 1
 
     def check_sometimes(self):
         yield from self.check_name()

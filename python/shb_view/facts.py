@@ -65,6 +65,11 @@ class Site:
     def is_atomic(self):
         return self.accesses[b"a"] + self.accesses[b"l"] > 0
 
+    def fills(self):
+        """Whether it seems to fill new blocks: it writes each variable once, and doesn't race."""
+        return (self.total == len(self.variables) and not self.reads() and not self.partners
+                and all(b"#" in name for name in self.variables))
+
     @functools.cached_property
     def guards(self):
         """How many accesses hold each lock as they have to: a read under a read lock does."""
@@ -493,13 +498,17 @@ def object_in(name):
 
 def is_rule(lacking, holding, variables, lock, is_member):
     """Whether lines that hold a lock say of those that lack it that they should: each variable is used with
-    it, what some readers alone hold is a rule if it is a member of the variable's object (`is_member`), and
-    the others hold no lock, or hold this one at times, or are fewer."""
+    it, not just filled; what some readers alone hold is a rule if it is a member of the variable's object
+    (`is_member`); the others hold no lock, or are fewer, or hold this one at times, but not one of several
+    whose names differ by numbers alone."""
+    holding = [site for site in holding if not site.fills()]
     holders = set().union(*(site.variables for site in holding))
     holders |= variables if b"" in holders else set()  # a free uses each variable of the block
     if not lacking or not holding or not variables <= holders:
         return False
     if not is_member and not any(site.writes() for site in holding) and any(site.reads() for site in lacking):
+        return False
+    if any(site.guarded(lock) and holds_another(site, lock) for site in lacking):
         return False
     is_bare = all(site.bare == site.total for site in lacking)
     return is_bare or any(site.guarded(lock) for site in lacking) or len(holding) > len(lacking)
@@ -569,7 +578,7 @@ def apart(racing, locks):
     alone = (f" {verb_of(racing)} without a lock" if racing[0].bare == racing[0].total
              else worded(" holds {}", held_at(racing[0])))
     several = " hold different locks" if all_hold else " have no lock in common"
-    private = sorted(locks.private & {lock for site in racing for lock in (*site.locks, *site.reading)})
+    private = sorted(locks.private.intersection(lock for site in racing for lock in site.guards))
     only = [worded("One thread alone uses {}.", Code(lock)) for lock in private[:MOST_NAMED]]
     return Fact("apart", {"lines": names_of(racing), "all_hold": all_hold, "held": held_of(racing, locks)},
                 worded("{}{}", racing, alone if len(racing) == 1 else several),

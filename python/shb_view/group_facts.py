@@ -8,7 +8,7 @@ from shb_common.variables import variable_of
 from shb_view.facts import RANKS, fact_of, joined, sites_of
 from shb_view.groups import Group, Pair, name_parts, object_of
 from shb_view.handed import MOST_RACES, handed, published, stores_of
-from shb_view.words import Code, Own, listed
+from shb_view.words import Code, listed
 
 MOST_NAMED = 3  # variables in a sentence
 
@@ -99,17 +99,17 @@ class Facts:
             names.setdefault(self.kinds.in_trace(name), []).append(name)
         alone = {variable: self.alone(found, variable, its) for variable, its in names.items()}
         forms = {one.fact.form for one in alone.values()}
-        is_own = found.fact.form == "without" and isinstance(found.fact.lock, Own)
-        if forms == {found.fact.form} or is_own and forms <= {"without", "sometimes", "apart"}:
+        is_whole = found.fact.form == "without" and forms <= {"without", "freed", "sometimes", "apart"}
+        if forms == {found.fact.form} or is_whole:
             return ()
         for variable, one in alone.items():
             alike.setdefault((one.fact.form, str(one.fact.tag)), []).append(variable)
-        together = []
-        for its in alike.values():
+        parts = []
+        for (form, _), its in alike.items():
             part = part_of(found.group, sum((names[one] for one in its), []), self.kinds)
-            together.append(self.of_all(part, joined(map(found.uses.of, its))))
-        are_alike = all(one.fact.form == form for one, (form, _) in zip(together, alike))
-        return sorted(together if are_alike else alone.values(), key=lambda one: RANKS[one.fact.form])
+            together = self.of_all(part, joined(map(found.uses.of, its)))
+            parts += [together] if together.fact.form == form else [alone[one] for one in its]
+        return sorted(parts, key=lambda one: RANKS[one.fact.form])
 
     def alone(self, found, variable, names):
         """What holds of one variable, in each group that it is in: only frees are of all variables."""
