@@ -32,8 +32,8 @@ def entry(view, section, pair, origin, names, variables):
     `variables` are those of each place, as `Gathered.variables` has them."""
     sites, accesses = {site.location: site for site in section.sites}, []
     its = {name for place in pair.places for name in variables[place]}
-    parts = [part for part in section.fact.parts if not its.isdisjoint(part.group.names)]
-    of = parts[0] if len(parts) == 1 else section  # what is told of the variables that race there
+    # what is told first of the variables that race there
+    of = next((part for part in section.fact.parts if not its.isdisjoint(part.group.names)), section)
     blamed = blamed_of(of.fact, pair.locations)
     for location in pair.locations:
         found = named(location, origin, names)

@@ -192,8 +192,8 @@ def open_regular(path):
 
 
 def make_sections(asked, kinds, made, trace, groups, unseen={}):
-    """How many groups there are, and those that are shown, in the order of their facts and then most uses
-    first; the first MOST_DETAILED with their windows if these are asked for."""
+    """How many groups there are, and those that are shown, in their order; the first MOST_DETAILED with their
+    windows if these are asked for."""
     if not groups:
         return 0, []
     wanted = {event for group in groups for pair in group.pairs[:MOST_SHOWN]
@@ -209,7 +209,7 @@ def make_sections(asked, kinds, made, trace, groups, unseen={}):
             left = still_racing(asked.shb, trace, list(trials.values()))
             found = after_trials(found, facts, trials, left,
                                  lambda: merged_groups(groups, counting.used, facts))
-        found.sort(key=lambda it: (RANKS[it.fact.form], -it.uses.total()))
+        found.sort(key=order_of)
         sections = [make_section(it, counting, unseen) for it in found[:MOST_GROUPS]]
         if asked.has_windows:
             races = [section.group.closest(blamed_of(section.fact, section.group.locations()))
@@ -219,6 +219,14 @@ def make_sections(asked, kinds, made, trace, groups, unseen={}):
     except (IndexError, KeyError, ValueError):
         raise Refused(CHANGED) from None
     return len(found), sections
+
+
+def order_of(found):
+    """By the form that the headline tells; then what has a name of its own, which blocks hang on; then most
+    used first."""
+    has_name = any(b"#" not in name and not name.startswith(b"stack.") for name in found.group.names)
+    rank = min(RANKS[one.fact.form] for one in found.fact.parts or [found])
+    return rank, not has_name, -found.uses.total()
 
 
 def make_section(found, counting, calls):
