@@ -222,11 +222,10 @@ def make_sections(asked, kinds, made, trace, groups, unseen={}):
 
 
 def order_of(found):
-    """By the form that the headline tells; then what has a name of its own, which blocks hang on; then most
-    used first."""
-    has_name = any(b"#" not in name and not name.startswith(b"stack.") for name in found.group.names)
+    """By the form that the headline tells; then what isn't in blocks alone, which hang on it; then most used
+    first."""
     rank = min(RANKS[one.fact.form] for one in found.fact.parts or [found])
-    return rank, not has_name, -found.uses.total()
+    return rank, all(b"#" in name for name in found.group.names), -found.uses.total()
 
 
 def make_section(found, counting, calls):
