@@ -402,6 +402,12 @@ class Pictures(program.Case):
                     self.assertTrue(shown == "" or name.startswith(shown[:-1]))
         self.assertGreater(cut, 1)
 
+    def test_no_name_of_a_bar_reaches_the_line_between_the_accesses(self):
+        """It crosses the bars of the lanes between them."""
+        found = picture.Layout(2, [1, 0, 1], [], [picture.Bar(1, "a name longer than the bar", 0, 2)])
+        _, top, _ = found.rectangle(0)
+        self.assertLess(top + picture.LETTER * len(found.name(0)), found.y[-1])
+
 
 def lane_of(found, x):
     """The lane that a bar is left of."""

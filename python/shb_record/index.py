@@ -22,10 +22,9 @@ Bug = collections.namedtuple("Bug", "name headline remedy file places pages runs
 
 
 def index(title, document):
-    style = part_of_page("page.css")
     head = (f'<!doctype html>\n<html lang="en"><meta charset="utf-8">\n'
             f'<meta name="viewport" content="width=device-width, initial-scale=1">\n{POLICY}\n'
-            f"<title>Data races of {in_html(title)}</title><style>{style}</style>\n")
+            f"<title>Data races of {in_html(title)}</title><style>{part_of_page('page.css')}</style>\n")
     summary = document["summary"]
     body = overview(document) if document["places"] else NO_BUG
     size = f"{counted(summary['runs'], 'run')}, {counted(summary['unknown'], 'unknown place')}"

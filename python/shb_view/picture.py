@@ -58,8 +58,7 @@ class Layout:
         self.top = HEAD * lanes + 4
         self.band = self.top + ROW * self.last + 6
         self.y = [self.height(min(at, self.last)) for at in range(len(events))]
-        self.spans = [(bar.lane, self.height(bar.top), self.height(bar.bottom) if bar.bottom <= self.last
-                       else self.band + BAND + GAP) for bar in bars]
+        self.spans = [(bar.lane, self.height(bar.top), self.height(bar.bottom)) for bar in bars]
         self.bar_slots = slots(self.spans)
         self.edge_slots = slots([(self.gap(edge), self.y[edge.first], self.y[edge.second]) for edge in edges])
         self.x, right = [], 6
@@ -69,7 +68,8 @@ class Layout:
         self.texts = right + 4
 
     def height(self, row):
-        return self.band + BAND if row == self.last else self.top + ROW * row + ROW // 2
+        below = row - self.last
+        return self.band + BAND + ROW * below if below >= 0 else self.top + ROW * row + ROW // 2
 
     def gap(self, edge):
         """The lane right of which an arrow goes down: left of the lane where it ends, or right of it if it
@@ -87,9 +87,9 @@ class Layout:
         return self.x[lane] - 8 - BAR * (self.bar_slots[it] + 1) + 2, round(top, 1), round(bottom - top, 1)
 
     def name(self, it):
-        """As much of a bar's name as there is room for along it."""
+        """As much of a bar's name as there is room for along it, above the line between the accesses."""
         _, top, bottom = self.spans[it]
-        most = int((bottom - top - 6) / LETTER)
+        most = int((min(bottom, self.band + BAND - ACCESS) - top - 6) / LETTER)
         name = self.bars[it].name
         return name if len(name) <= most else f"{name[:most - 1]}…" if most > 7 else ""
 
