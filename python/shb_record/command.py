@@ -283,8 +283,8 @@ def conclude(look, rows, status):
     for words in known.words_of_stale(look.stale(), look.places.names):
         say(f"{look.options.known_path}, {words}")
     for first, second in itertools.islice(look.passed_over, MOST_PASSED):
-        say(f"{printable(second)} read what {printable(first)} wrote, in a known race: a second look skipped "
-            "both")
+        say(f"{printable(second)} read what {printable(first)} wrote, a known race: a second look left it "
+            "out")
     shown = (counted(unknown, "unknown place" if look.options.known_path else "place") + " with races"
              + f" ({counted(len(its), 'pair')} of lines; each order counts)" * (len(its) < unknown)
              + (f" ({'' if behind == unknown else f'{behind:,} of them '}behind known races: real if these "

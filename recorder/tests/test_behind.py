@@ -64,7 +64,7 @@ class Behind(recorder.Case):
                           said)
             self.assertIn("(behind known races: real if these are harmless), 1 known one skipped;", said)
             self.assertIn("\ttries\n", (self.folder / "out" / "unknown.places").read_text())
-            self.assertIn(": pay.c:5 read what pay.c:7 wrote, in a known race: a second look skipped both\n",
+            self.assertIn(": pay.c:5 read what pay.c:7 wrote, a known race: a second look left it out\n",
                           said)
         self.assertIn("behind", states)
 
