@@ -29,7 +29,8 @@ OUTSIDE = {
     "settings of CMake, Meson and make":
         "DCMAKE_CXX_FLAGS DCMAKE_C_FLAGS DCMAKE_CROSSCOMPILING_EMULATOR Db_sanitize LDFLAGS buildtype "
         "debugoptimized",
-    "programs that run tests, and their options": "copt ctest linkopt meson pytest run_under wrapper",
+    "programs that run tests, and their options": "copt ctest dbg linkopt meson pytest run_under "
+        "sandbox_writable_path wrapper",
     "options of ThreadSanitizer": "exitcode halt_on_error history_size log_path",
     "names of ThreadSanitizer's that the recorder leaves out":
         "__interceptor_* __sanitizer_syscall_pre_* _post_*",
