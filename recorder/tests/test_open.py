@@ -196,9 +196,11 @@ class Limits(recorder.Case):
         ran = recorder.must(recorder.call("valgrind", "--tool=callgrind", "--callgrind-out-file=/dev/null",
                                           recorder.BUILT / "shb-std", "--list", record))
         self.assertLess(int(re.search(rb"Collected : (\d+)", ran.stderr)[1]), 100_000_000)
-        updates = b"".join(entry(t, "ATOMIC_UPDATE", 0x5000, 0x300, 4 | 3 << 5) for t in range(1, 801))
-        record.write_bytes(HEADER + forks + entry(0, "FENCE", 0, 0x299, 2) + updates * 100)
-        self.assertLess(recorder.most_memory(recorder.BUILT / "shb-std", "--list", record), 60 << 20)
+        updates = b"".join(entry(t, "ATOMIC_UPDATE", 0x5000, 0x300, 4 | 3 << 5) for t in range(1, 401))
+        loads = b"".join(entry(t, "ATOMIC_LOAD", 0x5000, 0x300, 4) for t in range(401, 801))
+        for relaxed in (updates, updates + loads):
+            record.write_bytes(HEADER + forks + entry(0, "FENCE", 0, 0x299, 2) + relaxed * 200)
+            self.assertLess(recorder.most_memory(recorder.BUILT / "shb-std", "--list", record), 60 << 20)
 
     def test_a_few_records_that_take_much_work(self):
         """Each takes what many threads gave, goes through many functions, or looks through many locks."""
