@@ -5,10 +5,12 @@
 
 It is run by hand, as root, with debootstrap and a network. WORK/bare is made where it isn't there. Commands
 run with nothing but a PATH in a copy of it, WORK/debian, with a /proc of its own: at first without Python,
-then with Python and xz, then with gcc and libdw too. The last line is 'N passed, N failed'.
+then with Python and xz, then with gcc and libdw too. In a further copy the commit is built with the packages
+that README names for that; only the program is the package's. The last line is 'N passed, N failed'.
 """
 
 import pathlib
+import re
 import shutil
 import subprocess
 import sys
@@ -83,6 +85,21 @@ def with_gcc(debian, package, top):
         expect(f"the commands of {name}", said[2] == 0, said)
 
 
+def from_source(debian, package, top):
+    debian.add(*re.search("Building needs `(.*?)`", README)[1].split())
+    source = debian.root / "root" / "source"
+    subprocess.run(["git", "clone", "-q", TOP, source], check=True)
+    with tarfile.open(package) as tar:
+        (source / "bin").mkdir()
+        (source / "bin" / "shb").write_bytes(tar.extractfile(f"{top}/bin/shb").read())
+    (source / "bin" / "shb").chmod(0o755)
+    for name, text in (("README", README), ("GUIDE", GUIDE)):
+        said = debian.call("cd /root/source\n" + script("checkout", text))
+        expect(f"the commands of {name} in a checkout", said[2] == 0, said)
+    said = debian.call("cd /root/source && make install SHB=bin/shb && /usr/local/bin/shb-record ./account")
+    expect("what is installed from it", said[2] == 66, said)
+
+
 def main(package, work):
     top = package.name[:-len(".tar.xz")]
     debian = Debian(work)
@@ -91,6 +108,7 @@ def main(package, work):
     with_python(debian, top)
     debian.add("gcc", "libc6-dev", "libdw1")
     with_gcc(debian, package, top)
+    from_source(Debian(work), package, top)
     print(f"{sum(RESULTS)} passed, {len(RESULTS) - sum(RESULTS)} failed")
     return 0 if all(RESULTS) else 1
 
