@@ -1,5 +1,8 @@
+#!/usr/bin/env python3
 """The list of places of `shb-std`'s text has those of a record: of records drawn at random `analysis.py`
 finds the same, from the entries alone.
+
+    test_drawn.py FIRST LAST    these seeds, by hand, each verified
 
 What decides which accesses `shb` is given, and of which variable, is in the converter; so a fault there would
 be found, which is tested too.
@@ -7,8 +10,13 @@ be found, which is tested too.
 
 import functools
 import io
+import pathlib
 import re
+import sys
 import types
+
+if __name__ == "__main__":
+    sys.path += [str(pathlib.Path(__file__).resolve().parents[2] / name) for name in ("tests", "python")]
 
 import recorder
 import test_open
@@ -499,3 +507,32 @@ class Planted(recorder.Case):
             with self.subTest(fault):
                 self.assertTrue(
                     self.is_found(test_open.planted(self.folder / str(number), name, before, after)))
+
+
+def compare(folder, seed, *converters):
+    """What differs between a drawn record, its list, and what coarse traces have with --verify."""
+    wanted, path = draw_record(folder, seed)
+    yield differs(wanted, listed(path, recorder.BUILT / "shb-std"))
+    for converter in converters:
+        try:
+            yield differs(wanted, found(path, converter, True)[0])
+        except converting.Contradiction as refused:
+            yield str(refused)
+
+
+def main(folder, first, last):
+    recorder.SHB = recorder.SOURCES.parent / "bin" / "shb"
+    recorder.build_recorder(folder)
+    converters, count = (recorder.BUILT / "shb-std", bundling(folder / "bundling")), 0
+    for seed in range(first, last):
+        for said in filter(None, compare(folder, seed, *converters)):
+            print(seed, said)
+            count += 1
+    print(f"{last - first} records, {count} differences")
+    sys.exit(count > 0)
+
+
+if __name__ == "__main__":
+    import tempfile
+    with tempfile.TemporaryDirectory() as made:
+        main(pathlib.Path(made), int(sys.argv[1]), int(sys.argv[2]))
