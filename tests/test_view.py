@@ -57,9 +57,9 @@ FORK_JOIN_ALL = FORK_JOIN + """
 Verified: every race on the page has a schedule that `shb check` accepts. Check again: `JUDGE`.
 """
 
-# Three pairs of lines with a place in each order: two of them share the variable `total`.
+# The lines of the second group race in both orders.
 UNLOCKED_READ = """\
-unlocked-read.std: 3 places with races, in 2 groups (18 events, 3 threads, 1 lock, 3 variables)
+unlocked-read.std: 2 places with races, in 2 groups (18 events, 3 threads, 1 lock, 3 variables)
 
 1. items: main.c:11 reads without lock (1 place)
    In this trace every access at queue.c:22 and queue.c:31 holds lock, and main.c:11 reads without it.
@@ -76,7 +76,7 @@ unlocked-read.std: 3 places with races, in 2 groups (18 events, 3 threads, 1 loc
    queue.c:31: 1 read by consumer
      holds lock
 
-2. closed: main.c:12 writes, queue.c:29 reads without a lock (2 places)
+2. closed: main.c:12 writes, queue.c:29 reads without a lock (1 place)
    In this trace no lock is held at any access; one thread writes, at main.c:12.
    Remedy: hold one lock at main.c:12 and queue.c:29.
    queue.c:29 read what main.c:12 wrote. This racy read may hide other races: fix it and run again.
@@ -103,11 +103,11 @@ account.std: 1 place with races, in 1 group (12 events, 2 threads, 1 lock, 1 var
      races with account.c:10
 """
 
-# A place in each order of its two locations is one place; the counts are those of `races`.
+# Two locations that race in both orders are one place.
 PLACES = """\
-places.std: 3 places with races, in 1 group (4 events, 4 threads, 0 locks, 1 variable)
+places.std: 2 places with races, in 1 group (4 events, 4 threads, 0 locks, 1 variable)
 
-1. total: Counter.java:12 writes, Report.java:30 reads without a lock (3 places)
+1. total: Counter.java:12 writes, Report.java:30 reads without a lock (2 places)
    In this trace no lock is held at any access; 3 threads write, at Counter.java:12.
    Remedy: hold one lock at Counter.java:12 and \
 Report.java:30.
@@ -522,16 +522,15 @@ class Groups(program.Case):
         [place] = json.loads(found.read_text())["places"]
         self.assertEqual(place["variables"], [{"name": name} for name in "xy"])
 
-    def test_places_are_counted_as_the_program_does(self):
-        """Two locations that race in both orders are two."""
+    def test_two_locations_are_one_place(self):
+        """The program lists one for each order in which they race."""
         for name in ("unlocked-read", "places", "account"):
-            count = int(re.search(rb"\nplaces (\d+)\n",
-                                  program.run(["places", "--list", EXAMPLES / f"{name}.std"]).out)[1])
+            listed = program.run(["places", "--list", EXAMPLES / f"{name}.std"]).out
+            count = len({frozenset(both) for both in re.findall(rb"\nat (.*)\nand (.*)", listed)})
             found = self.folder / "found.json"
             status, out, _ = run_here(["--text", "--json", found, EXAMPLES / f"{name}.std"])
             document = json.loads(found.read_text())
-            self.assertEqual((document["summary"]["places"],
-                              sum(place["places"] for place in document["places"])), (count, count))
+            self.assertEqual((document["summary"]["places"], len(document["places"])), (count, count))
             self.assertRegex(out, rf": {count} places? with races, in ")
 
     def test_the_variable_of_nearly_all_races_is_named(self):

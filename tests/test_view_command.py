@@ -96,13 +96,13 @@ class Running(Fake):
         self.assertIn("Code of &lt;b&gt;lib\\x1b.so isn&#x27;t seen.", page.read_text())
         document = json.loads(found.read_text())
         self.assertEqual((document["form"], document["version"], document["command"], document["notes"][-1]),
-                         ("shb-places", 1, "shb-view", "Code of <b>lib\\x1b.so isn't seen."))
+                         ("shb-places", 2, "shb-view", "Code of <b>lib\\x1b.so isn't seen."))
         [place] = document["places"]
         self.assertEqual([(access["location"], access["uses"], access["threads"])
                           for access in place["accesses"]],
                          [("start.c:6", {"write": 1}, {"main": 1}),
                           ("worker.c:3", {"write": 1}, {"worker": 1})])
-        self.assertEqual((place["places"], place["variables"]), (1, [{"name": "count"}]))
+        self.assertEqual(place["variables"], [{"name": "count"}])
 
     def test_a_fault_of_the_view_itself(self):
         with mock.patch("shb_view.command.make_view", lambda *_: None):

@@ -94,7 +94,7 @@ class Pages(program.Case):
         page = self.page(self.example("unlocked-read"))
         self.assertEqual([text for _, text in page.all("summary")][1:],
                          ["1 items main.c:11 reads without lock main.c:11 1 place",
-                          "2 closed main.c:12 writes, queue.c:29 reads without a lock main.c:12 2 places"])
+                          "2 closed main.c:12 writes, queue.c:29 reads without a lock main.c:12 1 place"])
         rows = [attributes for attributes, _ in page.all("details") if "id" in attributes]
         self.assertEqual([(row["id"], row["class"]) for row in rows],
                          [("group-1", "group rank1"), ("group-2", "group rank3")])

@@ -6,16 +6,16 @@ from shb_common import known
 from shb_common.programs import Names, pair_of, sorting
 
 
-class Row(collections.namedtuple("Row", "key names texts sides places variables has_more is_known traces "
-                                        "example race is_behind report",
+class Row(collections.namedtuple("Row", "key names texts sides variables has_more is_known traces example "
+                                        "race is_behind report",
                                  defaults=(False, ""))):
-    """Two locations that race, of which all results are written. `key` has the two, each of its own program;
-    `names` what they are called over all programs, `texts` how the example has them, `sides` what they may be
-    called in a file of known places. They race in so many orders (`places`); `variables` are the names of
-    those that race there, each with whether it is known, and `has_more` says whether there are more. So many
-    `traces` have it; `example` is the one that is named, and `race` what is known of the race that was seen
-    first. `is_behind` says that all unknown variables were found behind known races alone; `report` is the
-    farm's: the example's report with schedules, below the folder of the outcomes, or why there is none."""
+    """Two locations that race, of which all results are written. `key` has the two, each of its own
+    program; `names` what they are called over all programs, `texts` how the example has them, `sides` what
+    they may be called in a file of known places. `variables` are the names of those that race there, each
+    with whether it is known, and `has_more` says whether there are more. So many `traces` have it;
+    `example` is the one that is named, and `race` what is known of the race that was seen first.
+    `is_behind` says that all unknown variables were found behind known races alone; `report` is the farm's:
+    the example's report with schedules, below the folder of the outcomes, or why there is none."""
 
     def state(self):
         return "known" if self.is_known else "behind" if self.is_behind else "unknown"
@@ -25,11 +25,11 @@ class Row(collections.namedtuple("Row", "key names texts sides places variables 
 
 
 class Seen:
-    """What was seen of two locations: how each trace that has them writes them, a race of each variable,
-    whether there are more variables, and the orders in which they race."""
+    """What was seen of two locations: how each trace that has them writes them, a race of each variable, and
+    whether there are more variables."""
 
     def __init__(self):
-        self.traces, self.variables, self.has_more, self.orders = {}, {}, False, set()
+        self.traces, self.variables, self.has_more = {}, {}, False
         self.behind = set()     # variables that were found behind known races alone
 
 
@@ -49,7 +49,6 @@ class Places:
         key = pair_of(order)
         seen = self.seen.setdefault(key, Seen())
         seen.traces.setdefault(trace, dict(zip(order, (first, second))))
-        seen.orders.add(order)
         seen.has_more = seen.has_more or has_more
         for name, race in variables.items():
             seen.variables.setdefault(name, race)
@@ -66,10 +65,15 @@ class Places:
         sides = tuple(map(self.names.side, both))
         variables = tuple((name, self.given.has(sides, name)) for name in sorted(seen.variables))
         return Row(both, tuple(known.written(self.names.name(location)) for location in both),
-                   tuple(seen.traces[example][location] for location in both), sides, len(seen.orders),
-                   variables, seen.has_more,
-                   self.is_known(key), len(seen.traces), example, next(iter(seen.variables.values()), None),
+                   tuple(seen.traces[example][location] for location in both), sides, variables,
+                   seen.has_more, self.is_known(key), len(seen.traces), example,
+                   next(iter(seen.variables.values()), None),
                    bool(seen.behind) and all(is_known or name in seen.behind for name, is_known in variables))
+
+
+def count(places):
+    """How many places of a trace these are: the analyser lists one for each order in which two lines race."""
+    return len({frozenset((place.first, place.second)) for place in places})
 
 
 def in_order(rows):

@@ -8,7 +8,7 @@ from shb_common.files import open_regular
 from shb_common.parts import installed
 from shb_common.words import Refused, printable
 
-FORM, VERSION = "shb-places", 1
+FORM, VERSION = "shb-places", 2
 NAME, MOST_BYTES = "places.json", 1 << 30
 
 
@@ -44,7 +44,7 @@ def entry(row, found, reads=((), ()), **more):
                 for name, location, in_trace, read in zip(row.names, row.key, row.texts, reads)]
     variables = [{"name": text(name), "state": "known" if is_known else "unknown"}
                  for name, is_known in row.variables]
-    return {"state": row.state(), "places": row.places, "accesses": accesses, "variables": variables,
+    return {"state": row.state(), "accesses": accesses, "variables": variables,
             "has_more_variables": row.has_more,
             **{name: found[name] for name in ("blamed", "about", "headline", "remedy", "facts")
                if name in found},

@@ -69,12 +69,11 @@ def named(place, local_of):
 
 def facts_of(rows, endings, stale, damaged):
     kinds = [ending.kind for ending in endings.values()]
-    unknown = sum(row.places for row in rows if not row.is_known)
-    places, reports = sum(row.places for row in rows), kinds.count("report")
+    known, reports = sum(row.is_known for row in rows), kinds.count("report")
     missing = kinds.count("missing")
     return {"traces": len(kinds), "reports": reports, "refused": len(kinds) - reports - missing,
-            "missing": missing, "damaged": damaged, "places": places, "unknown": unknown,
-            "known": places - unknown, "stale": stale,
+            "missing": missing, "damaged": damaged, "places": len(rows),
+            "unknown": len(rows) - known, "known": known, "stale": stale,
             "unreported": sum(row.report == "missing" for row in rows)}
 
 

@@ -5,7 +5,7 @@ import os
 
 from shb_common import known, result, sarif
 from shb_common.files import put
-from shb_common.places import unknown_places
+from shb_common.places import count, unknown_places
 from shb_common.words import printable
 from shb_farm import calls
 
@@ -32,10 +32,10 @@ def variables_of(row):
 
 def places_table(found):
     """A line for each two locations; FARM.md has its fields."""
-    lines = [b"traces\tstate\tfirst\tsecond\texample\treport\tplaces\tvariables\n"]
+    lines = [b"traces\tstate\tfirst\tsecond\texample\treport\tvariables\n"]
     for row in found.rows:
         fields = [b"%d" % row.traces, field(row.state()), *row.names, field(row.example), field(row.report),
-                  b"%d" % row.places, variables_of(row)]
+                  variables_of(row)]
         lines.append(b"\t".join(fields) + b"\n")
     return b"".join(lines)
 
@@ -44,7 +44,7 @@ def traces_table(endings):
     """A line for each trace: how it ended, its places, the words of its outcome, and what it cost."""
     lines = [b"trace\toutcome\tplaces\twords\tseconds\tMiB\n"]
     for name, ending in endings.items():
-        places = b"%d" % len(ending.places) if ending.kind == "report" else b""
+        places = b"%d" % count(ending.places) if ending.kind == "report" else b""
         cost = ending.cost and (b"%.2f" % ending.cost.seconds, b"%d" % (ending.cost.kib // 1024))
         fields = [field(name), field(ending.kind), places, field(ending.words), *(cost or (b"", b""))]
         lines.append(b"\t".join(fields) + b"\n")

@@ -278,7 +278,6 @@ def status_of(look, rows):
 
 
 def conclude(look, rows, status):
-    its = [row for row in rows if not row.is_known]
     unknown, passed_over, behind = map(counts(rows).get, ("unknown", "known", "behind"))
     for words in known.words_of_stale(look.stale(), look.places.names):
         say(f"{look.options.known_path}, {words}")
@@ -286,7 +285,6 @@ def conclude(look, rows, status):
         say(f"{printable(second)} read what {printable(first)} wrote, a known race: a second look left it "
             "out")
     shown = (counted(unknown, "unknown place" if look.options.known_path else "place") + " with races"
-             + f" ({counted(len(its), 'pair')} of lines; each order counts)" * (len(its) < unknown)
              + (f" ({'' if behind == unknown else f'{behind:,} of them '}behind known races: real if these "
                 "are harmless)" if behind else "")
              + (f", {counted(passed_over, 'known one')} skipped" if passed_over else ""))

@@ -52,10 +52,8 @@ def overview(document):
         rows.append([link(f"#file-{number}", file), share, *sums(its)])
         tables.append(f'<h2 id="file-{number}">{in_html(file)}</h2>\n'
                       + table("bugs", ("Variable", "Fact and remedy", *HEADS[2:]), map(cells_of, its)))
-    places, lines = sum(bug.places for bug in found), counted(len(document["places"]), "pair")
-    pairs = f" ({lines} of lines; each order counts)" * (len(document["places"]) < places)
     head = (f'<p class="sum">{counted(len(found), "bug")} in {counted(len(files), "file")}: '
-            f'{counted(places, "place")} with races{pairs}</p>\n')
+            f'{counted(len(document["places"]), "place")} with races</p>\n')
     return head + table("files", HEADS, rows) + "\n".join(tables)
 
 
@@ -152,6 +150,6 @@ def bug_of(entries, groups, ways):
     form = groups[first["group"] - 1]["form"] if paged else None
     return Bug(flat(common_name(names)) if names else "", first.get("headline") or places,
                first.get("remedy", ""), result.text(file),
-               sum(entry["places"] for entry in entries), pages,
+               len(entries), pages,
                set().union(*(entry["processes"] for entry in entries)), states,
                ("unknown" not in states, RANKS.get(form, len(RANKS))))

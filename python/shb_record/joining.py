@@ -50,7 +50,7 @@ def row_of(entry):
     names, texts = (tuple(result.name_of(access[name]) for access in entry["accesses"])
                     for name in ("location", "in_trace"))
     return Row(tuple(Location(result.name_of(access.get("file", "")), b"") for access in entry["accesses"]),
-               names, texts, tuple(map(side_of, names, entry["accesses"])), entry["places"],
+               names, texts, tuple(map(side_of, names, entry["accesses"])),
                tuple((result.name_of(one["name"]), one["state"] == "known") for one in entry["variables"]),
                entry["has_more_variables"], entry["state"] == "known", len(entry["processes"]),
                (entry["process"], entry["trace"]),
@@ -101,7 +101,6 @@ def merged(one, other):
     variables = {its["name"]: its for its in sorted((*one["variables"], *other["variables"]),
                                                     key=lambda its: its["state"])}
     return {**(other if other["pages"] and not one["pages"] else one),
-            "places": max(one["places"], other["places"]),
             "state": min(one["state"], other["state"], key=STATES.index),
             "variables": [variables[name] for name in sorted(variables)],
             "has_more_variables": one["has_more_variables"] or other["has_more_variables"],

@@ -4,6 +4,7 @@ import os
 import shlex
 import sys
 
+from shb_common.places import count
 from shb_common.programs import Origin
 from shb_common.standard import words_of
 from shb_common.words import Refused, counted, printable
@@ -98,7 +99,7 @@ class Look:
             found = [(new.place, new.variables) for new in self.places.unknown_of(looked.new)]
         else:
             found = [(place, place.variables) for place in looked.places]
-            self.unshown += len(found)
+            self.unshown += count(looked.places)
         if not self.stops.first:  # else they were said before
             say_places(found, f"{looked.process.name}: ", "with races that can't be shown")
 
@@ -202,9 +203,9 @@ class Look:
         is_told = (unknown or self.options.replay or self.options.runs < TOLD or len(self.runs) == 1
                    or not len(self.runs) % TOLD)
         if unknown if self.options.live else looked.events and is_told:
-            places = (counted(len(unknown), "new place") if self.options.live
-                      else counted(len(looked.places), "place"))
-            say(f"{process.name} ({process.command}): {looked.size}; {places} with races")
+            found = [one.place for one in unknown] if self.options.live else looked.places
+            words = counted(count(found), "new place" if self.options.live else "place")
+            say(f"{process.name} ({process.command}): {looked.size}; {words} with races")
         for note in looked.notes:
             if (looked.events or note != KILLED) and note not in self.said:
                 self.said.update([note] if self.options.live else [])
@@ -275,7 +276,7 @@ class Look:
 def say_places(found, whose="", what=""):
     """Says how many places these are, and of each and some of its variables a race."""
     if found and what:
-        say(f"{whose}{counted(len(found), 'place')} {what}:")
+        say(f"{whose}{counted(count(place for place, _ in found), 'place')} {what}:")
     for place, names in found:
         for name in sorted(place.variables.keys() & names):
             first, second = (f"{printable(access.location)} {KINDS[access.word]} by "

@@ -30,7 +30,6 @@ class Places(places.Places):
     def add_place(self, trace, order, first, second, variables, has_more):
         key = pair_of(order)
         if self.is_endless and key in self.seen:
-            self.seen[key].orders.add(order)
             variables = {name: race for name, race in variables.items() if self.is_new(key, name)}
             if not variables:
                 return key
@@ -123,16 +122,11 @@ def named(place, tables, numbers):
     return place._replace(variables=variables), names
 
 
-def count(rows):
-    """How many places these are: two where both orders raced."""
-    return sum(row.places for row in rows)
-
-
 def table(rows):
     """A line for each two locations, below the names of the columns."""
-    yield b"first\tsecond\tplaces\tvariables\tstate\tevent\tand event\tprocess\ttrace\n"
+    yield b"first\tsecond\tvariables\tstate\tevent\tand event\tprocess\ttrace\n"
     for row in rows:
         process, trace = row.example
         names = b", ".join(known.written(name) for name, _ in row.variables) + b", .." * row.has_more
         words = row.state(), *map(str, row.race.events), process, os.path.basename(trace)
-        yield b"\t".join([*row.names, b"%d" % row.places, names, *map(os.fsencode, words)]) + b"\n"
+        yield b"\t".join([*row.names, names, *map(os.fsencode, words)]) + b"\n"

@@ -9,7 +9,7 @@ from shb_common.locations import parts_of
 from shb_common.places import unknown_places
 from shb_common.programs import pair_of
 from shb_record.index import index
-from shb_record.places import count, table
+from shb_record.places import table
 
 NUMBERS = r"#\d+| \(\d+ (?:or more )?(?:variables|blocks)\)|(?<= and )\d+ (?:or more )?(?=others)"
 
@@ -43,9 +43,9 @@ def document(look, rows, entries, groups, status):
 
 
 def counts(rows):
-    known = count(row for row in rows if row.is_known)
-    return {"places": count(rows), "unknown": count(rows) - known,
-            "behind": count(row for row in rows if row.state() == "behind"), "known": known}
+    known = sum(row.is_known for row in rows)
+    return {"places": len(rows), "unknown": len(rows) - known,
+            "behind": sum(row.state() == "behind" for row in rows), "known": known}
 
 
 def entry(look, row, found):

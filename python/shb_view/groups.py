@@ -16,8 +16,8 @@ IN_FILE = rb"(?s).(?::[0-9]+|\+0x[0-9a-f]+)\Z"  # what the name of a block ends 
 
 
 class Pair:
-    """Two lines that race, whichever comes first. `places` are the one or two that they are, and `closest` is
-    the listed race whose events are closest in the trace."""
+    """Two lines that race, whichever comes first. `places` has each order in which they are listed, and
+    `closest` is the listed race whose events are closest in the trace."""
 
     __slots__ = "locations", "closest", "places"  # a trace may have very many
 
@@ -29,10 +29,6 @@ class Group(collections.namedtuple("Group", "pairs variables names")):
     """`pairs` and `variables` are in the order in which the report names them, the variables those of the
     races that were read. An atomic is one variable, and a local has its own name; `names` are those in the
     trace, which has one for each thread that writes an atomic."""
-
-    def count(self):
-        """How many places it has."""
-        return sum(len(pair.places) for pair in self.pairs)
 
     def locations(self):
         """The racing lines."""

@@ -120,7 +120,7 @@ def group_row(view, number, section, tag):
     cells = {"no": number, "var": marked(common_name(section.group.variables), NAME),
              "fact": joined([marked(section.fact.tag, NAME), *tags]),
              "at": marked([place(blamed(section))], NAME),
-             "races": counted(section.group.count(), "place")}
+             "races": counted(len(section.group.pairs), "place")}
     cells = [element("h2" if name == "var" else "span", cell, class_=name) for name, cell in cells.items()]
     return element("details", element("summary", joined(cells, " ")),
                    element("pre", "\n".join(issue_lines(view, section))),

@@ -45,7 +45,7 @@ def entry(view, section, pair, origin, names, variables):
         found["stacks"] = [stack_entry(frames, count, view.stacks.sources) for (frames, _),
                            count in section.callers.get(location, ())[:MOST_STACKS] if frames]
         accesses.append(found)
-    return {"places": len(pair.places), "accesses": accesses,
+    return {"accesses": accesses,
             "variables": [{"name": name} for name in sorted({result.text(without_block(view.kinds.name(name)))
                                                              for name in its})],
             **({"blamed": named(blamed, origin, names)} if blamed else {}),

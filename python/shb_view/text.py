@@ -55,7 +55,7 @@ def text_lines(view, colours, is_whole):
 
 def headline(number, section, colours):
     name = flat(common_name(section.group.variables))
-    places = counted(section.group.count(), "place")
+    places = counted(len(section.group.pairs), "place")
     return colours.bold(f"{number}. {name}: {flat(section.fact.tag)}") + f" ({places})"
 
 

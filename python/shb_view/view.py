@@ -114,7 +114,7 @@ def view_of(file, made, kinds, asked, progress, unseen={}):
                     kinds.stacks.sources if asked.has_recorded else {})
     notes = [*map(readable, asked.notes), *warnings(file.name)]
     sections = [advised(section, source, kinds.stacks.functions) for section in sections]
-    return View(title, made, sum(group.count() for group in groups), count, sections, source, notes,
+    return View(title, made, sum(len(group.pairs) for group in groups), count, sections, source, notes,
                 kinds.stacks, kinds, judge=judge_of(made, file.name))
 
 

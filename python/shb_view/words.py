@@ -1,6 +1,5 @@
 """Words that the text and the page share. What is said is a list of parts: plain text, and names as `Code`. A
-place is a pair of lines that race, that of the first access and that of the second; a group is the places
-that share a variable."""
+place is two lines that race, whichever comes first; a group is the places that share a variable."""
 
 import re
 

@@ -17,7 +17,7 @@ from shb_farm.passes import Pass, key_of
 
 FULL_TEXT = f"""\
 traces 5 reports 3 refused 2 missing 0
-places 3 unknown 2 known 1
+places 2 unknown 1 known 1
 
 traces  state    first  second  variables  example
 2       unknown  a.c:1  b.c:2   x          one.std
@@ -27,9 +27,9 @@ refused  bad.std   {BAD_WORDS}
 refused  gone.std  No such file or directory
 """
 FULL_PLACES = f"""\
-traces	state	first	second	example	report	places	variables
-2	unknown	a.c:1	b.c:2	one.std	reports/{key_of('one.std')}.report	2	x
-1	known	k.c:1	k.c:2	three.std		1	y
+traces	state	first	second	example	report	variables
+2	unknown	a.c:1	b.c:2	one.std	reports/{key_of('one.std')}.report	x
+1	known	k.c:1	k.c:2	three.std		y
 """
 FULL_TRACES = f"""\
 trace	outcome	places	words	seconds	MiB
@@ -110,7 +110,7 @@ class Tables(farm.Case):
                                  f'{farm.SHB} "$@" | head -n -1\n')
         self.assertEqual(self.farm("--memory", "256", shb=shb).status, 2)
         self.assertEqual(self.table("places.tsv"),
-                         [["1", "unknown", "a.c:1", "b.c:2", "race.std", "missing", "1", "x"]])
+                         [["1", "unknown", "a.c:1", "b.c:2", "race.std", "missing", "x"]])
         self.assertEqual(list((self.out / "reports").glob("*.report")), [])
 
     def test_a_long_location_does_not_make_all_lines_long(self):
@@ -228,7 +228,7 @@ class Tables(farm.Case):
         self.trace("b.std", OTHER_ORDER)
         self.farm()
         self.assertEqual(self.table("places.tsv"), [
-            ["3", "unknown", "a.c:1", "b.c:2", "b.std", f"reports/{key_of('b.std')}.report", "2", "x"]])
+            ["3", "unknown", "a.c:1", "b.c:2", "b.std", f"reports/{key_of('b.std')}.report", "x"]])
 
     def test_help(self):
         answer = self.farm("--help")

@@ -18,7 +18,7 @@ def place(first, second, name, group=None, state="unknown", functions=()):
     accesses = [{"location": f"app.c:{line}", "in_trace": f"app.c:{line}", "functions": list(functions),
                  "event": line} for line in (first, second)]
     its = {"group": group, "headline": f"app.c:{first} writes without a lock", "remedy": "lock it"}
-    return {"state": state, "places": 1, "accesses": accesses, "variables": [{"name": name, "state": state}],
+    return {"state": state, "accesses": accesses, "variables": [{"name": name, "state": state}],
             "has_more_variables": False, "process": PROCESS, "trace": "run1.7.std", "processes": [PROCESS],
             **(its if group else {})}
 
@@ -29,7 +29,7 @@ def group(trace="run1.7.std", is_checked=True):
 
 
 def document(places, groups, runs=1, status=66, **more):
-    unknown = sum(one["places"] for one in places if one["state"] != "known")
+    unknown = sum(one["state"] != "known" for one in places)
     return result.document("shb-record", {"places": len(places), "unknown": unknown, "runs": runs,
                                           "status": status}, places, groups=groups, notes=["A note."], **more)
 
@@ -53,8 +53,8 @@ class Joining(farm.side_by_side.Case):
                          (66, "shb-record: 2 unknown places with races in 2 recordings of 6 runs; "
                           "the overview: all/index.html\n"))
         its = json.loads((self.folder / "all/places.json").read_text())
-        self.assertEqual([(one["state"], one["places"], one["processes"]) for one in its["places"]],
-                         [("unknown", 1, ["one, run 1, process 7", "two, run 1, process 7"])] * 2)
+        self.assertEqual([(one["state"], one["processes"]) for one in its["places"]],
+                         [("unknown", ["one, run 1, process 7", "two, run 1, process 7"])] * 2)
         self.assertEqual((its["summary"]["runs"], len(its["groups"])), (6, 3))
         self.assertEqual((self.folder / "all/unknown.places").read_text(),
                          "app.c:1\tapp.c:2\tx\napp.c:3\tapp.c:4\ty\n")
@@ -72,8 +72,8 @@ class Joining(farm.side_by_side.Case):
                                    [group("r\\xff.std")], is_whole=False))
         self.assertEqual(self.join("-o", "all", "a/out/places.json", "b/out")[0], 66)
         self.assertEqual((self.folder / "all/places.tsv").read_text().splitlines()[1:], [
-            "app.c:1\tapp.c:2\t1\tx\tunknown\t1\t2\tb/out, run 1, process 7\trun1.7.std",
-            "app.c:5\tapp.c:6\t1\tz\tknown\t5\t6\ta/out, run 1, process 7\trun1.7.std"])
+            "app.c:1\tapp.c:2\tx\tunknown\t1\t2\tb/out, run 1, process 7\trun1.7.std",
+            "app.c:5\tapp.c:6\tz\tknown\t5\t6\ta/out, run 1, process 7\trun1.7.std"])
         self.assertEqual((self.folder / "all/unknown.places").read_text(),
                          "# app.c:1\tapp.c:2\napp.c:pay()\tapp.c:pay()\tx\n")
         [log] = json.loads((self.folder / "all/places.sarif").read_text())["runs"]

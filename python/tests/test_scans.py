@@ -24,8 +24,8 @@ class LongTraces(farm.Case):
                          (1, ("report", f"events {MANY + 4} threads 3 locks 0 variables 2")))
         kept = f"reports/{key_of('long.std')}.report"
         self.assertEqual(self.table("places.tsv"), [["1", "unknown", "a.c:1", "b.c:2", "race.std",
-                                                     f"reports/{key_of('race.std')}.report", "1", "x"],
-                                                    ["1", "unknown", "k.c:1", "k.c:2", "long.std", kept, "2",
+                                                     f"reports/{key_of('race.std')}.report", "x"],
+                                                    ["1", "unknown", "k.c:1", "k.c:2", "long.std", kept,
                                                      "y, z"]])
         self.assertEqual((self.out / kept).read_bytes(), b"""shb-report 2
 events 4194308 threads 3 locks 0 variables 2

@@ -77,7 +77,7 @@ class Command(recorder.Case):
         self.assertEqual(text_of(self.folder / "status.shb" / "unknown.places"), UNKNOWN)
         # main forks both, then each writes
         self.assertRegex(text_of(self.folder / "status.shb" / "places.tsv"),
-                         r"\nstatus.c:9\tstatus.c:9\t1\tshared\tunknown\t\d+\t\d+\trun 1, process "
+                         r"\nstatus.c:9\tstatus.c:9\tshared\tunknown\t\d+\t\d+\trun 1, process "
                          r"\d+\trun1\.\d+\.std\n$")
 
     def host(self, *words):
@@ -175,14 +175,14 @@ int main(int count, char **words) {
         [there, back] = re.findall(r"(?m)^at (.*)\nand (.*)$", text_of(places))
         self.assertEqual(there, back[::-1])
         for shown in said, text_of(page):
-            self.assertRegex(shown, r"2 places with races, in \d group")
+            self.assertRegex(shown, r"1 place with races, in \d group")
         numbers = re.findall(r"In the run the accesses are events ([\d,]+) and ([\d,]+)\.", text_of(page))
         races = re.findall(r"(?m)^race \d+: (\d+) (\d+)$", text_of(places))
         self.assertTrue(numbers
                         and {tuple(number.replace(",", "") for number in pair)
                              for pair in numbers} <= set(races), (numbers, races))
         self.assertIn(f"races with {there[1]}\n", said)
-        self.assertIn("shb-record: 2 places with races (1 pair of lines; each order counts);", said)
+        self.assertIn("shb-record: 1 place with races;", said)
         self.assertNotIn("can't judge it", said)
 
     def test_a_thread_whose_name_is_hostile(self):
@@ -211,7 +211,7 @@ int main(int count, char **words) {
                         for number, line in enumerate(text_of(recorder.PROGRAMS / "long_race.c").splitlines(),
                                                       1) if "RACE" in line)
         self.assertEqual((status, sorted(row[0] for row in rows)), (66, marked))
-        numbers = sorted([int(number) for number in row[5:7]] for row in rows)
+        numbers = sorted([int(number) for number in row[4:6]] for row in rows)
         self.assertLess(numbers[0][1], 100)
         self.assertGreater(numbers[1][0], events - 100)
 
@@ -225,7 +225,7 @@ int main(int count, char **words) {
         self.assertIn(head, said)
         rows = [line.split("\t")
                 for line in text_of(self.folder / "far_apart.shb" / "places.tsv").splitlines()[1:]]
-        self.assertEqual(len([row for row in rows if row[3] == "far"]), 1)
+        self.assertEqual(len([row for row in rows if row[2] == "far"]), 1)
         for known, wanted in (("far_apart.c:*()\tfar_apart.c:*()\tcell\n", 66),
                               ("*\t*\tcell\n*\t*\tfar\n", 0)):
             status, _, said = self.record("--window", "400", "--known", self.known(known), program)
@@ -517,10 +517,10 @@ int main(int count, char **words) {
         status, _, said = self.record("-o", "out", *both)
         self.assertEqual((status, "2 places with races" in said, "counter: " in said, "balance: " in said),
                          (66, True, True, True), said)
-        rows = [line.split("\t")[:4] for line in text_of(self.folder / "out" / "places.tsv").splitlines()[1:]]
+        rows = [line.split("\t")[:3] for line in text_of(self.folder / "out" / "places.tsv").splitlines()[1:]]
         self.assertEqual(rows,
-                         [["one/w.c:5", "one/w.c:5", "1", "counter"],
-                          ["two/w.c:5", "two/w.c:5", "1", "balance"]])
+                         [["one/w.c:5", "one/w.c:5", "counter"],
+                          ["two/w.c:5", "two/w.c:5", "balance"]])
         self.assertEqual(self.record("-o", "one.out", "./prog-one")[0], 66)
         known = self.folder / "one.out" / "unknown.places"
         status, _, said = self.record("-o", "out", "--known", known, *both)
@@ -540,7 +540,7 @@ int main(int count, char **words) {
         self.assertEqual(self.record("--known", known, program)[0], 66)
         folder = self.folder / "stats.shb"
         found, log = (json.loads(text_of(folder / f"places.{end}")) for end in ("json", "sarif"))
-        self.assertEqual((found["form"], found["version"], found["command"]), ("shb-places", 1, "shb-record"))
+        self.assertEqual((found["form"], found["version"], found["command"]), ("shb-places", 2, "shb-record"))
         self.assertEqual(
             {name: found["summary"][name]
              for name in ("places", "unknown", "known", "stale", "status", "runs")},
