@@ -19,6 +19,8 @@
 #define LOW_48_BITS 0xffffffffffffull
 /* no program's address: descriptor D is at 16 D above it, its data 8 further */
 #define FIRST_DESCRIPTOR (1ul << 47)
+/* so many sets of held locks tell an access from its repeats; further ones do by how many locks they have */
+#define SETS_APART 64
 /* at this bit: semaphores (1) and queues (2) of System V, queues of POSIX (3); by numbers as descriptors */
 #define KIND_OF_OBJECT 40
 /* such a size or a greater one stands in a record OP_SIZE after this one */

@@ -36,11 +36,13 @@ class Uses:
     how many that trace has. `parts` are those of its events before which some of the run may be missing;
     `repeated` are those that stand for repeats before them, `once` those of these behind the first release of
     their thread at its place; `sights` are a variable, and where it was written
-    and then read by another thread, in the run."""
+    and then read by another thread, in the run. `are_sets_apart`: whether the recorder told all sets of held
+    locks apart."""
 
     def __init__(self, path):
         self.uses, self.events, self.in_run, self.parts, self.count = [], {}, {}, [], None
         self.repeated, self.once, self.sights = set(), set(), set()
+        self.are_sets_apart = True
         with open_regular(path) as file:
             if file.readline(len(BEGIN)) != BEGIN:
                 raise BadUses(OTHER)
@@ -73,6 +75,8 @@ class Uses:
             self.sights.add(tuple(fields[1:]))
         elif kind == b"part":
             self.parts.extend(map(whole, fields[1:]))
+        elif fields == [b"sets"]:
+            self.are_sets_apart = False
         elif kind == b"events":
             [self.count] = map(whole, fields[1:])
         else:

@@ -21,6 +21,9 @@ VERIFIED = "Verified: "
 COUNTS = ("Counts are those of the trace. The recorder omits repeats: a loop may count as two accesses.",
           'Counts such as "6 of 7" cover the whole run, without repeated accesses.')
 
+MANY_SETS = ("Threads held more than 64 sets of locks. What is said of locks holds of recorded accesses: "
+             "some repeats under as many other locks were omitted.")
+
 
 class Code(bytes):
     """A name of the trace or a location, as bytes."""
@@ -143,6 +146,8 @@ def notes_of(view):
                "have races.")
     if view.sections and view.stacks.numbers:
         yield COUNTS[view.of_run]
+    if view.sections and view.made.uses and not view.made.uses.are_sets_apart:
+        yield MANY_SETS
     if view.sections:
         shown = [site.location for section in view.sections
                  for site in section.sites[:MOST_SITES] if site.location]

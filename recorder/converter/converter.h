@@ -261,6 +261,7 @@ void note_part(u64 in_page);           /* a span begins or ends behind so many e
 part lock_name(u32 number);            /* objects.c: with WIDE bytes that may be read */
 part name_of_held(u64 key);            /* the same: of a lock that a thread holds */
 int is_for_reading(u64 key);           /* the same: does it hold it for reading? */
+int are_sets_apart(void);              /* did the recorder tell all sets of held locks apart? */
 void count_use(u32 t, u64 caller, u64 own_place, u32 piece, char word);
 enum { NOBODY = -1u };
 /* an event of the piece, or of what stands for a thread's atomic writes */

@@ -437,18 +437,29 @@ static hold *hold_of(u32 t, u64 key) {
     return k ? &s->held.at[k - 1] : 0;
 }
 
+static map sets;                       /* of locks that a thread held */
+
+int are_sets_apart(void) { return sets.count <= SETS_APART; }
+
+/* A thread has a lock more, or less. */
+static void change_set(thread_state *s, u64 key, int sign) {
+    if (key & ONLY_ORDERS) return;
+    s->locks += sign * mix(key + 1, 0);
+    if (s->locks) map_number(&sets, s->locks, 0);
+}
+
 static void add_hold(u32 t, hold added) {
     thread_state *s = &threads[t];
     added.is_again = hold_of(t, added.key) != 0;
     *PUSH(s->held) = added;
     s->unwritten += !added.acquire;
-    if (!(added.key & ONLY_ORDERS)) s->locks += mix(added.key + 1, 0);
+    change_set(s, added.key, 1);
 }
 
 static void end_hold(u32 t, hold *h) {
     thread_state *s = &threads[t];
     s->unwritten -= !h->acquire;
-    if (!(h->key & ONLY_ORDERS)) s->locks -= mix(h->key + 1, 0);
+    change_set(s, h->key, -1);
     memmove(h, h + 1, (&s->held.at[s->held.count--] - (h + 1)) * sizeof *h);
 }
 

@@ -27,6 +27,7 @@
            owner; of a read also later ones, before the thread could order another or the variable is
            written, or behind its last write. `once`: the thread released nothing before at the place of
            its last release
+       sets                         of locks were more than the recorder tells apart
        events COUNT-IN-PAGE         at the end */
 #define _GNU_SOURCE
 #include <errno.h>
@@ -290,6 +291,7 @@ void end_uses(void) {
     if (!uses_file) return;
     EACH(u, uses.at, uses.numbers.count) write_use(u);
     EACH(s, sights.at, sights.numbers.count) write_sight(s);
+    if (!are_sets_apart()) fputs("sets\n", uses_file);
     fprintf(uses_file, "events\t%lu\n", written);
     if (fflush(uses_file) || ferror(uses_file) || fclose(uses_file)) cannot_write(uses_path);
 }

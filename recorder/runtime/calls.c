@@ -110,7 +110,7 @@ static uint64_t kind_of(const context *c) {
 /* A use under locks stands for those alone that are under the same ones. But where so many sets have numbers
    the others of one, two, three and more locks share one each: of thousands of sets, as of locks in a table,
    most uses would be of a kind of their own. */
-enum { SETS = 64, SHARED = 4 };
+enum { SETS = SETS_APART, SHARED = 4 };
 
 /* With the turn. */
 static uint64_t number_of_set(uint64_t sum, uint32_t locks) {

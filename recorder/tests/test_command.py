@@ -185,6 +185,15 @@ int main(int count, char **words) {
         self.assertIn("shb-record: 1 place with races;", said)
         self.assertNotIn("can't judge it", said)
 
+    def test_it_is_said_where_sets_of_locks_are_not_told_apart(self):
+        source = self.folder / "sets.c"
+        for locks, is_said in (24, False), (300, True):
+            with self.subTest(locks):
+                source.write_text(text_of(recorder.PROGRAMS / "many_sets.c").replace("= 24", f"= {locks}"))
+                recorder.build(source, "-O1", self.folder / "sets")
+                status, _, said = self.record(self.folder / "sets")
+                self.assertEqual((status, "Threads held more than 64 sets of locks." in said), (66, is_said))
+
     def test_a_thread_whose_name_is_hostile(self):
         _, _, said = self.record(self.program("thread_names.c"))
         page = text_of(next((self.folder / "thread_names.shb").glob("run1.*.html")))
