@@ -118,6 +118,7 @@ inlined_frame *frames_of(u64 caller);  /* null where it wasn't noted */
 inlined_frame *outermost(inlined_frame *f);
 int in_one_function(u64 caller, u64 other);
 const char *function_name(u64 address, char *buffer, size_t size);       /* "" where it is not known */
+int is_of_rust(const char *name);      /* of a function of its library, or mangled by its compiler */
 /* The name if it isn't of the system's libraries, nor of the C++ library's headers unless for a lambda of the
    program; else 0. */
 int own_function_name(u64 address, char *buffer, size_t size);

@@ -32,7 +32,7 @@ void name_thread(u32 t, u64 function) {
     char name[FUNCTION_BYTES];
     if (!t || threads[t].is_named) return;
     function_name(function, name, sizeof name);
-    if (!strncmp(name, "std::sys::", 10)) return;            /* Rust's library's */
+    if (is_of_rust(name)) return;
     set_name(t, name);
 }
 

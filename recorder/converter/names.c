@@ -176,12 +176,17 @@ static char *lambda_among(const char *name) {
     return 0;
 }
 
+/* Rust's own tools alone can read what its compiler mangled. */
+int is_of_rust(const char *name) {
+    return !strncmp(name, "std::sys::", 10) || !strncmp(name, "__rust_", 7) || !strncmp(name, "_R", 2);
+}
+
 /* By its module and its name, not by what is inlined at its beginning. */
 int own_function_name(u64 address, char *buffer, size_t size) {
     module *m = module_at(address);
     symbol *s = m && !m->in_system && !m->is_recorder ? symbol_at(m, address) : 0;
     char *name = s ? shortened(copied(s->name)) : 0;
-    if (name && (is_of_cxx_library(name) || !strncmp(name, "__rust_", 7))) {
+    if (name && (is_of_cxx_library(name) || is_of_rust(name))) {
         free(name);
         name = lambda_among(s->name);
     }

@@ -78,6 +78,7 @@ class Text(recorder.Case):
         said = self.recorded("rustc", *RUST, linked, LANGUAGES / "race_static.rs", "-o", "app")
         self.assertIn("race_static.rs:8", said)
         self.assertIn("Rust's own library in app has no hooks", said)
+        self.assertRegex(said, r"race_static.rs:8: (reads and )?writes by (main and T1|T1 and main)\n")
 
 
 def add_tests():
