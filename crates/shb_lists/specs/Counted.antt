@@ -1,5 +1,5 @@
 -- What is counted of races by the numbers of their locations.
-use Rattle.std.specs.Prelude.{◌≡◌, ◌+◌, ◌^◌, ◌<◌, ◌≤◌, ℕ, Bool, true, false, zero, suc, List, [], ◌∷◌, Some, None, IfSome, cond, fold, length, map, slice_get, slice_index_or}
+use Rattle.std.specs.Prelude.{◌≡◌, ◌+◌, ◌-◌, ◌*◌, ◌^◌, ◌<◌, ◌≤◌, ℕ, Bool, true, false, zero, suc, List, [], ◌∷◌, Some, None, IfSome, cond, fold, length, map, min, slice_get, slice_index_or}
 use Rattle.std.specs.List.{AllByRecursion}
 use Rattle.std.specs.Str.{bytes_eq}
 use Rattle.indexmap.specs.IndexSet.{insert_key}
@@ -94,6 +94,10 @@ pub record MayCount (asks : ℕ → Bool) (trace : List Event) (numbers : List �
   pub asked : asks access.event ≡ true
   pub room : counter.races + length (races_with trace access.event) < 2 ^ 64
   pub counted : (leading : List Pair) × (races : List (ℕ × ℕ)) × HasCounted numbers leading races counter
+
+-- how many cells the tables of so many threads and locations have: each thread one for each location and thread
+abbrev pub cells_of : ℕ → ℕ → ℕ
+cells_of threads classes = min (threads * min (classes + threads) (2 ^ 64 - 1)) (2 ^ 64 - 1)
 
 -- what the accesses of x of one kind conflict with
 abbrev pub side_of : Bool → Racing → RacingCounts

@@ -11,3 +11,4 @@ pub mod Planned
 pub mod Rivals
 pub mod OwnNumbers
 pub mod RacingCounts
+pub mod Settled

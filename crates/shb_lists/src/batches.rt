@@ -4,6 +4,7 @@ ghost use Rattle.std.specs.Prelude.{◌≡◌, ◌⊎◌, ◌+◌, ◌<◌, ◌�
 ghost use Rattle.shb_stamps.specs.Open.{is_open as is_open_in};
 ghost use Rattle.shb_lists.specs.Batches.{AreNarrowed, races_between};
 ghost use Rattle.shb_lists.specs.Listed.{pair_in};
+ghost use Rattle.shb_lists.specs.Settled.{events_of};
 
 use crate::kept::{found_races, in_list_order};
 use crate::listed::ListedRace;
@@ -54,7 +55,7 @@ pub(crate) fn races_within(
     from: u32,
     to: u32,
 ) -> Result<Vec<ListedRace>, NoMemory>
-    ensures { IfOk result (λ races. map pair_in races.items ≡ races_between settled.now.disciplined.now.events.now from to) }
+    ensures { IfOk result (λ races. map pair_in races.items ≡ races_between (events_of settled.now) from to) }
 {
     let variables = settled.disciplined.sizes.variables;
     let flags = narrowed(alloc, settled.flags, variables, from, to)?;

@@ -9,6 +9,7 @@ ghost use Rattle.shb_lists.specs.Counted.{HasCounted};
 ghost use Rattle.shb_lists.specs.Listed.{races_before};
 ghost use Rattle.shb_lists.specs.PlaceRaces.{HaveNearest};
 ghost use Rattle.shb_lists.specs.Planned.{IsPlan};
+ghost use Rattle.shb_lists.specs.Settled.{events_of, trace_of};
 
 use crate::counter::RaceCounter;
 use crate::counting::Counting;
@@ -47,11 +48,11 @@ fn count_events<R: RandomSource>(
     numbers: &[u32],
     most: u64,
 ) -> Result<BatchPlan, NoMemory>
-    requires numbers { length numbers.now ≡ length settled.now.disciplined.now.events.now }
+    requires numbers { length numbers.now ≡ length (events_of settled.now) }
     requires counted { (leading : List Pair) × HasCounted numbers.now leading [] counter.old }
     ensures counted { OnOk result ((leading : List Pair) → HasCounted numbers.now leading [] counter.old
-        → HasCounted numbers.now leading (races_before settled.now.disciplined.now.events.now settled.now.flags.now (length settled.now.disciplined.now.events.now)) counter.new) }
-    ensures planned { IfOk result (IsPlan settled.now.disciplined.now.events.now) }
+        → HasCounted numbers.now leading (races_before (events_of settled.now) settled.now.flags.now (length (events_of settled.now))) counter.new) }
+    ensures planned { IfOk result (IsPlan (events_of settled.now)) }
     ensures most { IfOk result (λ plan. plan.most ≡ most) }
 {
     let variables = settled.disciplined.sizes.variables;
@@ -93,11 +94,11 @@ pub fn counted_races<R: RandomSource>(
     nearest: &[Pair],
     most: u64,
 ) -> Result<RaceCount, NoMemory>
-    requires nearest { HaveNearest settled.now.disciplined.now.trace.now (map ends nearest.now) }
-    ensures races { (listed : List (ℕ × ℕ)) → IsRaceList settled.now.disciplined.now.events.now listed → IfOk result (λ c. c.races ≡ length listed) }
-    ensures places { (listed : List (ℕ × ℕ)) → IsRaceList settled.now.disciplined.now.events.now listed
-        → IfOk result (λ c. c.places ≡ counts_in (places_of_pairs settled.now.disciplined.now.trace.now (map pair_of listed))) }
-    ensures batches { IfOk result (λ c. IsPlan settled.now.disciplined.now.events.now c.batches) }
+    requires nearest { HaveNearest (trace_of settled.now) (map ends nearest.now) }
+    ensures races { (listed : List (ℕ × ℕ)) → IsRaceList (events_of settled.now) listed → IfOk result (λ c. c.races ≡ length listed) }
+    ensures places { (listed : List (ℕ × ℕ)) → IsRaceList (events_of settled.now) listed
+        → IfOk result (λ c. c.places ≡ counts_in (places_of_pairs (trace_of settled.now) (map pair_of listed))) }
+    ensures batches { IfOk result (λ c. IsPlan (events_of settled.now) c.batches) }
     ensures most { IfOk result (λ c. c.batches.most ≡ most) }
 {
     let located = location_numbers(rt, alloc, settled.disciplined, settled.flags)?;

@@ -11,6 +11,7 @@ ghost use Rattle.shb_lists.specs.Leading.{LeadingRaces};
 ghost use Rattle.shb_lists.specs.Listed.{race_in};
 ghost use Rattle.shb_lists.specs.Counted.{AreNumbered};
 ghost use Rattle.shb_lists.specs.PlaceRaces.{AreFound, AreOffered, AreRaces, AreTold, Covers, HasAsked, HasGained, HasOffered, HasVariable, HaveNearest, IsInListOrder};
+ghost use Rattle.shb_lists.specs.Settled.{events_of, trace_of};
 
 use crate::history::AccessHistory;
 use crate::kept::variable_of;
@@ -59,9 +60,9 @@ fn first_nearest<R: RandomSource>(
     located: &LocationNumbers<'_>,
     nearest: &[Pair],
 ) -> Result<PlaceRaces, NoMemory>
-    requires numbered { AreNumbered settled.now.disciplined.now.trace.now settled.now.flags.now (length settled.now.disciplined.now.events.now) located.now.numbers.items located.now.locations }
-    requires races { AreRaces settled.now.disciplined.now.events.now nearest.now }
-    ensures { IfOk result (λ found. HasOffered settled.now.disciplined.now.trace.now located.now.locations nearest.now (length nearest.now) found.races.entries) }
+    requires numbered { AreNumbered (trace_of settled.now) settled.now.flags.now (length (events_of settled.now)) located.now.numbers.items located.now.locations }
+    requires races { AreRaces (events_of settled.now) nearest.now }
+    ensures { IfOk result (λ found. HasOffered (trace_of settled.now) located.now.locations nearest.now (length nearest.now) found.races.entries) }
 {
     let events = settled.disciplined.events;
     let numbers = located.numbers.as_slice();
@@ -94,10 +95,10 @@ fn offer_all(
     located: &LocationNumbers<'_>,
     told: &[bool],
 ) -> Result<(), NoMemory>
-    requires numbered { AreNumbered settled.now.disciplined.now.trace.now settled.now.flags.now (length settled.now.disciplined.now.events.now) located.now.numbers.items located.now.locations }
-    requires as_many { length told.now ≡ length settled.now.disciplined.now.events.now }
-    requires found { AreFound settled.now.disciplined.now.trace.now located.now.locations found.old.races.entries }
-    ensures { OnOk result (HasAsked settled.now.disciplined.now.trace.now located.now.locations told.now (length settled.now.disciplined.now.events.now) found.old.races.entries found.new.races.entries) }
+    requires numbered { AreNumbered (trace_of settled.now) settled.now.flags.now (length (events_of settled.now)) located.now.numbers.items located.now.locations }
+    requires as_many { length told.now ≡ length (events_of settled.now) }
+    requires found { AreFound (trace_of settled.now) located.now.locations found.old.races.entries }
+    ensures { OnOk result (HasAsked (trace_of settled.now) located.now.locations told.now (length (events_of settled.now)) found.old.races.entries found.new.races.entries) }
 {
     let numbers = located.numbers.as_slice();
     let mut history = AccessHistory::new(alloc, settled.disciplined.sizes.variables)?;
@@ -151,9 +152,9 @@ pub(crate) fn leading_races<R: RandomSource>(
     located: &LocationNumbers<'_>,
     nearest: &[Pair],
 ) -> Result<Vec<Pair>, NoMemory>
-    requires numbered { AreNumbered settled.now.disciplined.now.trace.now settled.now.flags.now (length settled.now.disciplined.now.events.now) located.now.numbers.items located.now.locations }
-    requires nearest { HaveNearest settled.now.disciplined.now.trace.now (map ends nearest.now) }
-    ensures { IfOk result (λ leading. LeadingRaces settled.now.disciplined.now.trace.now (map ends leading.items)) }
+    requires numbered { AreNumbered (trace_of settled.now) settled.now.flags.now (length (events_of settled.now)) located.now.numbers.items located.now.locations }
+    requires nearest { HaveNearest (trace_of settled.now) (map ends nearest.now) }
+    ensures { IfOk result (λ leading. LeadingRaces (trace_of settled.now) (map ends leading.items)) }
 {
     located.locations.are_different();
     let mut found = first_nearest(rt, alloc, settled, located, nearest)?;

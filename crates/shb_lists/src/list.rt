@@ -8,6 +8,7 @@ ghost use Rattle.shb_lists.specs.Given.{HasGiven, IsNext, ListsRaces, parts_left
 ghost use Rattle.shb_lists.specs.PlaceRaces.{HaveNearest};
 ghost use Rattle.shb_lists.specs.Parts.{IsPart, IsPartly, races_until};
 ghost use Rattle.shb_lists.specs.declared.list.Rest.TheVariants.{From, Within};
+ghost use Rattle.shb_lists.specs.Settled.{events_of, trace_of, variables_of};
 
 use crate::counted::{RaceCount, counted_races};
 use crate::listed::{ListedRace, pairs_of};
@@ -66,13 +67,13 @@ fn part_within<'a>(
     mut parts: RaceParts<'a>,
     to: u32,
 ) -> Result<Part<'a>, NoMemory>
-    requires search { IsPartly settled.now.disciplined.now.events.now settled.now.disciplined.now.sizes.variables parts.variable parts }
+    requires search { IsPartly (events_of settled.now) (variables_of settled.now) parts.variable parts }
     requires next { to ≡ parts.variable + 1 }
-    requires within { to ≤ settled.now.disciplined.now.sizes.variables }
+    requires within { to ≤ variables_of settled.now }
     ensures part { IfOk result (λ part. IsPart plan.most part.races.items) }
-    ensures given { IfOk result (λ part. HasGiven settled.now.disciplined.now.events.now settled.now.disciplined.now.sizes.variables (races_below settled.now.disciplined.now.events.now settled.now.disciplined.now.sizes.variables)
-        (races_below settled.now.disciplined.now.events.now parts.entry.variable ++ races_until settled.now.disciplined.now.events.now parts.entry.variable parts.entry.next ++ map pair_in part.races.items) part.rest) }
-    ensures fewer { IfOk result (λ part. parts_left (length settled.now.disciplined.now.events.now) settled.now.disciplined.now.sizes.variables part.rest < parts_left (length settled.now.disciplined.now.events.now) settled.now.disciplined.now.sizes.variables (Within plan parts.entry to)) }
+    ensures given { IfOk result (λ part. HasGiven (events_of settled.now) (variables_of settled.now) (races_below (events_of settled.now) (variables_of settled.now))
+        (races_below (events_of settled.now) parts.entry.variable ++ races_until (events_of settled.now) parts.entry.variable parts.entry.next ++ map pair_in part.races.items) part.rest) }
+    ensures fewer { IfOk result (λ part. parts_left (length (events_of settled.now)) (variables_of settled.now) part.rest < parts_left (length (events_of settled.now)) (variables_of settled.now) (Within plan parts.entry to)) }
 {
     let races = parts.next_part(alloc, settled, plan.most)?;
     if parts.next < settled.disciplined.events.len() as u32 {
@@ -94,9 +95,9 @@ fn part_from<'a>(
     plan: BatchPlan,
     variable: u32,
 ) -> Result<Part<'a>, NoMemory>
-    requires { variable < settled.now.disciplined.now.sizes.variables }
-    ensures given { IfOk result (λ part. HasGiven settled.now.disciplined.now.events.now settled.now.disciplined.now.sizes.variables (races_below settled.now.disciplined.now.events.now settled.now.disciplined.now.sizes.variables) (races_below settled.now.disciplined.now.events.now variable ++ map pair_in part.races.items) part.rest) }
-    ensures fewer { IfOk result (λ part. parts_left (length settled.now.disciplined.now.events.now) settled.now.disciplined.now.sizes.variables part.rest < parts_left (length settled.now.disciplined.now.events.now) settled.now.disciplined.now.sizes.variables (From plan variable)) }
+    requires { variable < variables_of settled.now }
+    ensures given { IfOk result (λ part. HasGiven (events_of settled.now) (variables_of settled.now) (races_below (events_of settled.now) (variables_of settled.now)) (races_below (events_of settled.now) variable ++ map pair_in part.races.items) part.rest) }
+    ensures fewer { IfOk result (λ part. parts_left (length (events_of settled.now)) (variables_of settled.now) part.rest < parts_left (length (events_of settled.now)) (variables_of settled.now) (From plan variable)) }
 {
     let Batch { to, races } = plan.batch(alloc, settled, variable)?;
     match races {
@@ -123,8 +124,8 @@ impl<'a> RaceList<'a> {
         settled: &Settled<'_>,
         races: Vec<ListedRace>,
     ) -> Result<RaceList<'a>, NoMemory>
-        requires { All (λ race. Race settled.now.disciplined.now.events.now race.0 race.1) (map pair_in races.items) }
-        ensures { IfOk result (ListsRaces settled.now.disciplined.now.events.now settled.now.disciplined.now.sizes.variables (map pair_in races.items) settled.now.disciplined.now.trace.now) }
+        requires { All (λ race. Race (events_of settled.now) race.0 race.1) (map pair_in races.items) }
+        ensures { IfOk result (ListsRaces (events_of settled.now) (variables_of settled.now) (map pair_in races.items) (trace_of settled.now)) }
     {
         let pairs = pairs_of(alloc, &races)?;
         let places = places_of(rt, alloc, settled.disciplined.trace, &pairs)?;
@@ -148,8 +149,8 @@ impl<'a> RaceList<'a> {
         nearest: &[Pair],
         most: u64,
     ) -> Result<RaceList<'a>, NoMemory>
-        requires { HaveNearest settled.now.disciplined.now.trace.now (map ends nearest.now) }
-        ensures { IfOk result (ListsRaces settled.now.disciplined.now.events.now settled.now.disciplined.now.sizes.variables (races_below settled.now.disciplined.now.events.now settled.now.disciplined.now.sizes.variables) settled.now.disciplined.now.trace.now) }
+        requires { HaveNearest (trace_of settled.now) (map ends nearest.now) }
+        ensures { IfOk result (ListsRaces (events_of settled.now) (variables_of settled.now) (races_below (events_of settled.now) (variables_of settled.now)) (trace_of settled.now)) }
     {
         let counted = counted_races(rt, alloc, settled, nearest, most)?;
         let RaceCount {
@@ -177,10 +178,10 @@ impl<'a> RaceList<'a> {
         alloc: Global,
         settled: &'a Settled<'a>,
     ) -> Result<Option<Vec<ListedRace>>, NoMemory>
-        requires { (races given : List (ℕ × ℕ)) × HasGiven settled.now.disciplined.now.events.now settled.now.disciplined.now.sizes.variables races given self.old.rest }
-        ensures next { (races given : List (ℕ × ℕ)) → HasGiven settled.now.disciplined.now.events.now settled.now.disciplined.now.sizes.variables races given self.old.rest
-            → IfOk result (IsNext settled.now.disciplined.now.events.now settled.now.disciplined.now.sizes.variables races given self.new.rest) }
-        ensures fewer { IfOk result (λ part. IfSome part (λ races. parts_left (length settled.now.disciplined.now.events.now) settled.now.disciplined.now.sizes.variables self.new.rest < parts_left (length settled.now.disciplined.now.events.now) settled.now.disciplined.now.sizes.variables self.old.rest)) }
+        requires { (races given : List (ℕ × ℕ)) × HasGiven (events_of settled.now) (variables_of settled.now) races given self.old.rest }
+        ensures next { (races given : List (ℕ × ℕ)) → HasGiven (events_of settled.now) (variables_of settled.now) races given self.old.rest
+            → IfOk result (IsNext (events_of settled.now) (variables_of settled.now) races given self.new.rest) }
+        ensures fewer { IfOk result (λ part. IfSome part (λ races. parts_left (length (events_of settled.now)) (variables_of settled.now) self.new.rest < parts_left (length (events_of settled.now)) (variables_of settled.now) self.old.rest)) }
     {
         match mem::replace(&mut self.rest, Rest::Ended) {
             Rest::Kept(races) => Ok(Some(races)),

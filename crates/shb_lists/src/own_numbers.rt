@@ -9,6 +9,7 @@ ghost use Rattle.shb_lines.specs.events.Race.{variable_at};
 ghost use Rattle.shb_stamps.specs.Open.{accesses_open, is_open};
 ghost use Rattle.shb_lists.specs.OwnNumbers.{AreOwn, AreOwnBefore, AreThreads, HasOwn, names_of};
 ghost use Rattle.shb_lists.specs.RacingCounts.{number_in};
+ghost use Rattle.shb_lists.specs.Settled.{events_of, variables_of};
 
 use crate::kept::variable_of;
 use crate::numbering::is_access;
@@ -142,9 +143,9 @@ impl OwnNumbers {
         settled: &Settled<'_>,
         names: &[u32],
     ) -> Result<OwnNumbers, NoMemory>
-        requires { length names.now ≡ length settled.now.disciplined.now.events.now }
-        ensures { IfOk result (λ own. AreOwnBefore settled.now.disciplined.now.events.now settled.now.flags.now settled.now.disciplined.now.sizes.variables
-            (length settled.now.disciplined.now.events.now) names.now own) }
+        requires { length names.now ≡ length (events_of settled.now) }
+        ensures { IfOk result (λ own. AreOwnBefore (events_of settled.now) settled.now.flags.now (variables_of settled.now)
+            (length (events_of settled.now)) names.now own) }
     {
         let events = settled.disciplined.events;
         let mut guesses = Guesses::new(rt, alloc)?;
@@ -175,7 +176,7 @@ impl OwnNumbers {
 
 /// The thread of each event.
 fn thread_of_each(alloc: Global, settled: &Settled<'_>) -> Result<Vec<u32>, NoMemory>
-    ensures { IfOk result (λ threads. AreThreads settled.now.disciplined.now.events.now threads.items) }
+    ensures { IfOk result (λ threads. AreThreads (events_of settled.now) threads.items) }
 {
     let events = settled.disciplined.events;
     let mut threads = Vec::with_capacity(alloc, events.len())?;
@@ -197,8 +198,8 @@ impl Own {
         settled: &Settled<'_>,
         locations: &[u32],
     ) -> Result<Own, NoMemory>
-        requires { length locations.now ≡ length settled.now.disciplined.now.events.now }
-        ensures { IfOk result (AreOwn settled.now.disciplined.now.events.now settled.now.flags.now locations.now) }
+        requires { length locations.now ≡ length (events_of settled.now) }
+        ensures { IfOk result (AreOwn (events_of settled.now) settled.now.flags.now locations.now) }
     {
         let threads = thread_of_each(alloc, settled)?;
         Ok(Own {

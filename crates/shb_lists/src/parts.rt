@@ -3,6 +3,7 @@
 ghost use Rattle.std.specs.Prelude.{◌≡◌, ◌<◌, ◌≤◌, ◌++◌, ℕ, IfOk, OnOk, length, map};
 ghost use Rattle.shb_lists.specs.Listed.{pair_in};
 ghost use Rattle.shb_lists.specs.Parts.{IsPart, IsPartly, races_until};
+ghost use Rattle.shb_lists.specs.Settled.{events_of, variables_of};
 
 use crate::batches::narrowed;
 use crate::history::AccessHistory;
@@ -38,8 +39,8 @@ impl<'a> RaceParts<'a> {
         settled: &'a Settled<'a>,
         variable: u32,
     ) -> Result<RaceParts<'a>, NoMemory>
-        requires { variable < settled.now.disciplined.now.sizes.variables }
-        ensures search { IfOk result (IsPartly settled.now.disciplined.now.events.now settled.now.disciplined.now.sizes.variables variable) }
+        requires { variable < variables_of settled.now }
+        ensures search { IfOk result (IsPartly (events_of settled.now) (variables_of settled.now) variable) }
         ensures start { IfOk result (λ parts. parts.next ≡ 0) }
     {
         let variables = settled.disciplined.sizes.variables;
@@ -67,16 +68,16 @@ impl<'a> RaceParts<'a> {
         settled: &Settled<'_>,
         most: u64,
     ) -> Result<Vec<ListedRace>, NoMemory>
-        requires search { (x : ℕ) × IsPartly settled.now.disciplined.now.events.now settled.now.disciplined.now.sizes.variables x self.old }
-        ensures search { (x : ℕ) → IsPartly settled.now.disciplined.now.events.now settled.now.disciplined.now.sizes.variables x self.old
-            → OnOk result (IsPartly settled.now.disciplined.now.events.now settled.now.disciplined.now.sizes.variables x self.new) }
-        ensures races { (x : ℕ) → IsPartly settled.now.disciplined.now.events.now settled.now.disciplined.now.sizes.variables x self.old
-            → IfOk result (λ part. races_until settled.now.disciplined.now.events.now x self.new.next
-            ≡ races_until settled.now.disciplined.now.events.now x self.old.next ++ map pair_in part.items) }
+        requires search { (x : ℕ) × IsPartly (events_of settled.now) (variables_of settled.now) x self.old }
+        ensures search { (x : ℕ) → IsPartly (events_of settled.now) (variables_of settled.now) x self.old
+            → OnOk result (IsPartly (events_of settled.now) (variables_of settled.now) x self.new) }
+        ensures races { (x : ℕ) → IsPartly (events_of settled.now) (variables_of settled.now) x self.old
+            → IfOk result (λ part. races_until (events_of settled.now) x self.new.next
+            ≡ races_until (events_of settled.now) x self.old.next ++ map pair_in part.items) }
         ensures part { IfOk result (λ part. IsPart most part.items) }
-        ensures full { IfOk result (λ part. self.new.next < length settled.now.disciplined.now.events.now → most ≤ length part.items) }
+        ensures full { IfOk result (λ part. self.new.next < length (events_of settled.now) → most ≤ length part.items) }
         ensures forward { OnOk result (self.old.next ≤ self.new.next) }
-        ensures more { OnOk result (self.old.next < length settled.now.disciplined.now.events.now → self.old.next < self.new.next) }
+        ensures more { OnOk result (self.old.next < length (events_of settled.now) → self.old.next < self.new.next) }
     {
         let mut part = Vec::new(alloc);
         let mut found = Vec::new(alloc);

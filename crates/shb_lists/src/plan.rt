@@ -5,6 +5,7 @@ ghost use Rattle.shb_lines.specs.declared.event.Event.{Event};
 ghost use Rattle.shb_lists.specs.Batches.{AreKept, races_between, races_on};
 ghost use Rattle.shb_lists.specs.Listed.{pair_in};
 ghost use Rattle.shb_lists.specs.Planned.{IsPlan, planned};
+ghost use Rattle.shb_lists.specs.Settled.{events_of, variables_of};
 
 use crate::batches::races_within;
 use crate::listed::ListedRace;
@@ -75,18 +76,18 @@ impl BatchPlan {
     ///
     /// `NoMemory` where a growth was refused.
     pub fn batch(&self, alloc: Global, settled: &Settled<'_>, from: u32) -> Result<Batch, NoMemory>
-        requires { from < settled.now.disciplined.now.sizes.variables }
+        requires { from < variables_of settled.now }
         ensures more { IfOk result (λ batch. from < batch.to) }
-        ensures within { IfOk result (λ batch. batch.to ≤ settled.now.disciplined.now.sizes.variables) }
-        ensures races { IfOk result (λ batch. IfSome batch.races (λ races. map pair_in races.items ≡ races_between settled.now.disciplined.now.events.now from batch.to)) }
+        ensures within { IfOk result (λ batch. batch.to ≤ variables_of settled.now) }
+        ensures races { IfOk result (λ batch. IfSome batch.races (λ races. map pair_in races.items ≡ races_between (events_of settled.now) from batch.to)) }
         ensures alone { IfOk result (λ batch. batch.races ≡ None → batch.to ≡ from + 1) }
-        ensures kept { IsPlan settled.now.disciplined.now.events.now self.now
-            → IfOk result (λ batch. AreKept (Some self.now.most) (races_on settled.now.disciplined.now.events.now from) batch.races) }
-        ensures few { IsPlan settled.now.disciplined.now.events.now self.now
+        ensures kept { IsPlan (events_of settled.now) self.now
+            → IfOk result (λ batch. AreKept (Some self.now.most) (races_on (events_of settled.now) from) batch.races) }
+        ensures few { IsPlan (events_of settled.now) self.now
             → IfOk result (λ batch. IfSome batch.races (λ races. length races.items ≤ self.now.most)) }
-        ensures full { IsPlan settled.now.disciplined.now.events.now self.now
-            → IfOk result (λ batch. IfSome batch.races (λ races. batch.to < settled.now.disciplined.now.sizes.variables
-            → self.now.most < length (races_between settled.now.disciplined.now.events.now from (batch.to + 1)))) }
+        ensures full { IsPlan (events_of settled.now) self.now
+            → IfOk result (λ batch. IfSome batch.races (λ races. batch.to < (variables_of settled.now)
+            → self.now.most < length (races_between (events_of settled.now) from (batch.to + 1)))) }
     {
         let to = self.end(from, settled.disciplined.sizes.variables);
         if !self.can_keep(from) {

@@ -3,12 +3,12 @@
 //! Tables of threads and locations take memory, and each access a step for each thread. They are made where a variable's
 //! accesses may have more races than that. Only what takes less time and memory depends on the choice.
 
-ghost use Rattle.std.specs.Prelude.{◌≡◌, ◌++◌, ◌+◌, ◌*◌, ◌<◌, ◌≤◌, ◌^◌, ◌⊎◌, ℕ, Bool, false, true, All, IfOk, IfSome, IsTrue, List, OnOk, length};
+ghost use Rattle.std.specs.Prelude.{◌≡◌, ◌++◌, ◌+◌, ◌-◌, ◌*◌, ◌/◌, ◌<◌, ◌≤◌, ◌^◌, ◌⊎◌, ℕ, Bool, false, true, All, IfOk, IfSome, IsTrue, List, OnOk, length, min};
 ghost use Rattle.shb_lines.specs.declared.event.Event.{Event};
 ghost use Rattle.shb_lines.specs.declared.event.Pair.{Pair};
 ghost use Rattle.shb_stamps.specs.Open.{is_open as is_open_in};
 ghost use Rattle.shb_stamps.specs.Accesses.{races_with};
-ghost use Rattle.shb_lists.specs.Counted.{AreRacing, AreTables, HasCounted, MayCount};
+ghost use Rattle.shb_lists.specs.Counted.{AreRacing, AreTables, HasCounted, MayCount, cells_of};
 ghost use Rattle.shb_lists.specs.History.{IsAccess};
 ghost use Rattle.shb_lists.specs.OwnNumbers.{AreOwnOf, names_of};
 ghost use Rattle.shb_lists.specs.declared.own_numbers.Own.{Own};
@@ -70,7 +70,11 @@ fn has_room(cells: u64, accesses: u64, left: &mut u64) -> bool
 }
 
 /// Whether a variable of so many accesses, threads and locations has tables: their cells are no more than its races may be.
-fn is_worth(accesses: u64, threads: usize, classes: usize, left: &mut u64) -> bool {
+fn is_worth(accesses: u64, threads: usize, classes: usize, left: &mut u64) -> bool
+    ensures worth { IsTrue result → cells_of threads classes ≤ min (accesses * accesses) (2 ^ 64 - 1) / 2 }
+    ensures room { IsTrue result → (cells_of threads classes * 8 ≤ accesses * 64) ⊎ (left.new + cells_of threads classes * 8 ≡ left.old) }
+    ensures kept { result ≡ false → left.new ≡ left.old }
+{
     let cells = (threads as u64).saturating_mul((classes as u64).saturating_add(threads as u64));
     let races = accesses.saturating_mul(accesses) / 2;
     cells <= races && has_room(cells, accesses, left)

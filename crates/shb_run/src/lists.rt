@@ -3,6 +3,7 @@ ghost use Rattle.std.specs.Prelude.{◌≡◌, ◌<◌, ℕ, All, IfOk, List, if
 ghost use Rattle.shb_lines.specs.events.Race.{ends};
 ghost use Rattle.shb_lists.specs.Given.{ListsRaces};
 ghost use Rattle.shb_lists.specs.Listed.{pair_in};
+ghost use Rattle.shb_lists.specs.Settled.{events_of, trace_of, variables_of};
 ghost use Rattle.shb_run.specs.Outcomes.{ListedBy};
 ghost use Rattle.shb_run.specs.declared.settings.Choice.TheVariants.{All as AllRaces, Nearest};
 
@@ -42,7 +43,7 @@ fn all_races<'a, R: RandomSource>(
     settled: &Settled<'_>,
     schedules: bool,
 ) -> Result<RaceList<'a>, NoMemory>
-    ensures { IfOk result (λ list. (races : List (ℕ × ℕ)) × ListedBy AllRaces settled.now.disciplined.now.trace.now races × ListsRaces settled.now.disciplined.now.events.now settled.now.disciplined.now.sizes.variables races settled.now.disciplined.now.trace.now list) }
+    ensures { IfOk result (λ list. (races : List (ℕ × ℕ)) × ListedBy AllRaces (trace_of settled.now) races × ListsRaces (events_of settled.now) (variables_of settled.now) races (trace_of settled.now) list) }
 {
     let events = settled.disciplined.trace.len();
     let most = most_kept(events, schedules);
@@ -85,7 +86,7 @@ fn nearest_list<'a, R: RandomSource>(
     settled: &Settled<'_>,
     by_variable: bool,
 ) -> Result<RaceList<'a>, NoMemory>
-    ensures { IfOk result (λ list. (races : List (ℕ × ℕ)) × ListedBy (Nearest by_variable) settled.now.disciplined.now.trace.now races × ListsRaces settled.now.disciplined.now.events.now settled.now.disciplined.now.sizes.variables races settled.now.disciplined.now.trace.now list) }
+    ensures { IfOk result (λ list. (races : List (ℕ × ℕ)) × ListedBy (Nearest by_variable) (trace_of settled.now) races × ListsRaces (events_of settled.now) (variables_of settled.now) races (trace_of settled.now) list) }
 {
     let nearest = nearest_races(rt, alloc, settled.disciplined, settled.flags, by_variable)?;
     let races = listed(alloc, settled.disciplined.events, &nearest)?;
@@ -100,7 +101,7 @@ pub(crate) fn races_asked<'a, R: RandomSource>(
     choice: Choice,
     schedules: bool,
 ) -> Result<RaceList<'a>, NoMemory>
-    ensures { IfOk result (λ list. (races : List (ℕ × ℕ)) × ListedBy choice settled.now.disciplined.now.trace.now races × ListsRaces settled.now.disciplined.now.events.now settled.now.disciplined.now.sizes.variables races settled.now.disciplined.now.trace.now list) }
+    ensures { IfOk result (λ list. (races : List (ℕ × ℕ)) × ListedBy choice (trace_of settled.now) races × ListsRaces (events_of settled.now) (variables_of settled.now) races (trace_of settled.now) list) }
 {
     match choice {
         Choice::All => all_races(rt, alloc, settled, schedules),

@@ -4,6 +4,7 @@ ghost use Rattle.shb_run.specs.declared.settings.Choice.TheVariants.{All, Neares
 ghost use Rattle.shb_run.specs.Outcomes.{HasSummed, IsOutcome, summary_of};
 ghost use Rattle.shb_format.specs.Report.{counts_of};
 ghost use Rattle.shb_format.specs.Value.{AreShown, IsShown};
+ghost use Rattle.shb_lists.specs.Settled.{trace_of};
 
 use crate::lists::races_asked;
 use crate::settings::{Choice, Settings, Summary};
@@ -45,7 +46,7 @@ fn report_settled<R: Threads + Wait + Sync + RandomSource, K: Sink, P: Gate + Sy
     plan: &BlockPlan<'_, '_, P, W>,
 ) -> Result<Summary, WriteError>
     requires countable { K.failure_count sink.old < 2 ^ 64 - 1 }
-    ensures { HasSummed choice plan.now.schedules settled.now.disciplined.now.trace.now K.taken K.failure_count sink.old sink.new result }
+    ensures { HasSummed choice plan.now.schedules (trace_of settled.now) K.taken K.failure_count sink.old sink.new result }
 {
     let mut list = races_asked(rt, alloc, settled, choice, plan.schedules)?;
     let count = list.count;

@@ -4,6 +4,7 @@ ghost use Rattle.shb_io.specs.Devices.{CountsFailure};
 ghost use Rattle.shb_lines.specs.declared.event.Event.{Event};
 ghost use Rattle.shb_lists.specs.Given.{HasGiven, ListsRaces};
 ghost use Rattle.shb_lists.specs.Listed.{pair_in};
+ghost use Rattle.shb_lists.specs.Settled.{events_of, trace_of, variables_of};
 ghost use Rattle.shb_write.specs.Blocks.{WritesBlocks, alone, scheduled_in, shown_in};
 ghost use Rattle.shb_write.specs.Listed.{HasListed, MayList};
 ghost use Rattle.shb_write.specs.Written.{write_failed};
@@ -60,8 +61,8 @@ fn schedule_kept<R: Threads + Wait + Sync, K: Sink, P: Gate + Sync, W: Gate + Sy
     races: &[ListedRace],
     plan: &BlockPlan<'_, '_, P, W>,
 ) -> Result<(), WriteError>
-    requires { MayList K.failure_count settled.now.disciplined.now.events.now writer.old (map pair_in races.now) }
-    ensures { HasListed (scheduled_in settled.now.disciplined.now.events.now) K.taken K.failure_count writer.old (map pair_in races.now) result writer.new }
+    requires { MayList K.failure_count (events_of settled.now) writer.old (map pair_in races.now) }
+    ensures { HasListed (scheduled_in (events_of settled.now)) K.taken K.failure_count writer.old (map pair_in races.now) result writer.new }
 {
     let pairs = pairs_in_pieces(rt, alloc, races, plan)?;
     let linked = Linked::new(settled.disciplined, settled.links);
@@ -79,8 +80,8 @@ fn write_kept<R: Threads + Wait + Sync, K: Sink, P: Gate + Sync, W: Gate + Sync>
     races: &[ListedRace],
     plan: &BlockPlan<'_, '_, P, W>,
 ) -> Result<(), WriteError>
-    requires { MayList K.failure_count settled.now.disciplined.now.events.now writer.old (map pair_in races.now) }
-    ensures { HasListed (shown_in plan.now.schedules settled.now.disciplined.now.events.now) K.taken K.failure_count writer.old (map pair_in races.now) result writer.new }
+    requires { MayList K.failure_count (events_of settled.now) writer.old (map pair_in races.now) }
+    ensures { HasListed (shown_in plan.now.schedules (events_of settled.now)) K.taken K.failure_count writer.old (map pair_in races.now) result writer.new }
 {
     if plan.schedules {
         schedule_kept(rt, alloc, writer, settled, races, plan)
@@ -98,9 +99,9 @@ fn write_parts<'a, R: Threads + Wait + Sync, K: Sink, P: Gate + Sync, W: Gate + 
     list: &mut RaceList<'a>,
     plan: &BlockPlan<'_, '_, P, W>,
 ) -> Result<(), WriteError>
-    requires { (races : List (ℕ × ℕ)) × HasGiven settled.now.disciplined.now.events.now settled.now.disciplined.now.sizes.variables races [] list.old.rest × MayList K.failure_count settled.now.disciplined.now.events.now writer.old races }
-    ensures { (races : List (ℕ × ℕ)) × HasGiven settled.now.disciplined.now.events.now settled.now.disciplined.now.sizes.variables races [] list.old.rest
-        × HasListed (shown_in plan.now.schedules settled.now.disciplined.now.events.now) K.taken K.failure_count writer.old races result writer.new }
+    requires { (races : List (ℕ × ℕ)) × HasGiven (events_of settled.now) (variables_of settled.now) races [] list.old.rest × MayList K.failure_count (events_of settled.now) writer.old races }
+    ensures { (races : List (ℕ × ℕ)) × HasGiven (events_of settled.now) (variables_of settled.now) races [] list.old.rest
+        × HasListed (shown_in plan.now.schedules (events_of settled.now)) K.taken K.failure_count writer.old races result writer.new }
 {
     while let Some(races) = list.next_part(alloc, settled)? {
         write_kept(rt, alloc, &mut *writer, settled, &races, plan)?;
@@ -118,9 +119,9 @@ pub(crate) fn write_blocks<'a, R: Threads + Wait + Sync, K: Sink, P: Gate + Sync
     plan: &BlockPlan<'_, '_, P, W>,
 ) -> Result<(), WriteError>
     requires countable { K.failure_count sink.old < 2 ^ 64 - 1 }
-    requires races { (races : List (ℕ × ℕ)) × (length races < 2 ^ 64) × ListsRaces settled.now.disciplined.now.events.now settled.now.disciplined.now.sizes.variables races settled.now.disciplined.now.trace.now list.old }
-    ensures blocks { (races : List (ℕ × ℕ)) → ListsRaces settled.now.disciplined.now.events.now settled.now.disciplined.now.sizes.variables races settled.now.disciplined.now.trace.now list.old
-        → WritesBlocks plan.now.schedules settled.now.disciplined.now.trace.now races (K.taken sink.old) (K.taken sink.new) result }
+    requires races { (races : List (ℕ × ℕ)) × (length races < 2 ^ 64) × ListsRaces (events_of settled.now) (variables_of settled.now) races (trace_of settled.now) list.old }
+    ensures blocks { (races : List (ℕ × ℕ)) → ListsRaces (events_of settled.now) (variables_of settled.now) races (trace_of settled.now) list.old
+        → WritesBlocks plan.now.schedules (trace_of settled.now) races (K.taken sink.old) (K.taken sink.new) result }
     ensures counted { CountsFailure write_failed (K.failure_count sink.old) (K.failure_count sink.new) result }
 {
     let mut writer = BlockWriter {

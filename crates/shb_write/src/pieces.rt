@@ -1,5 +1,5 @@
 //! Races as work in pieces, and the pairs that workers make of them.
-ghost use Rattle.std.specs.Prelude.{◌≡◌, ◌+◌, ◌^◌, ◌<◌, ◌≤◌, ℕ, All, List, IfOk, [], flat_map, length, map, slice_index_or, slice_range};
+ghost use Rattle.std.specs.Prelude.{◌≡◌, ◌+◌, ◌^◌, ◌<◌, ◌≤◌, ℕ, All, List, IfOk, [], flat_map, length, map, min, slice_index_or, slice_range};
 ghost use Rattle.shb_lines.specs.events.Race.{ends};
 ghost use Rattle.shb_lines.specs.text.TraceData.{TraceData};
 ghost use Rattle.shb_lists.specs.Listed.{pair_in};
@@ -28,7 +28,8 @@ pub(crate) struct Piece<'r> {
 
 /// How many races a piece of so many has: an eighth of each worker's share, so that a slow piece holds up no other one.
 fn piece_length(races: usize, workers: Workers) -> usize
-    ensures { 0 < result }
+    ensures some { 0 < result }
+    ensures most { result ≤ 256 }
 {
     (races / (8 * workers.get() as usize)).clamp(1, PIECE_LENGTH)
 }
@@ -37,6 +38,7 @@ fn piece_length(races: usize, workers: Workers) -> usize
 fn piece_end(races: &[ListedRace], start: usize, most: usize) -> usize
     requires more { start < length races.now }
     requires some { 0 < most }
+    ensures end { result ≡ min (length races.now) (start + most) }
     ensures more { start < result }
     ensures within { result ≤ length races.now }
 {

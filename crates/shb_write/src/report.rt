@@ -4,6 +4,7 @@ ghost use Rattle.shb_io.specs.Devices.{IsCounted, Writes};
 ghost use Rattle.shb_format.specs.Places.{IsPlaceOf, counts_in, places_of_pairs};
 ghost use Rattle.shb_format.specs.Report.{counts_of, front_bytes, pair_of};
 ghost use Rattle.shb_lists.specs.Given.{ListsRaces};
+ghost use Rattle.shb_lists.specs.Settled.{events_of, trace_of, variables_of};
 ghost use Rattle.shb_write.specs.Written.{HasReported, These};
 
 use crate::errors::WriteError;
@@ -65,9 +66,9 @@ pub fn write_races<'a, R: Threads + Wait + Sync, K: Sink, P: Gate + Sync, W: Gat
     plan: &BlockPlan<'_, '_, P, W>,
 ) -> Result<(), WriteError>
     requires countable { K.failure_count sink.old < 2 ^ 64 - 1 }
-    requires races { (races : List (ℕ × ℕ)) × ListsRaces settled.now.disciplined.now.events.now settled.now.disciplined.now.sizes.variables races settled.now.disciplined.now.trace.now list.old }
-    ensures { (races : List (ℕ × ℕ)) → ListsRaces settled.now.disciplined.now.events.now settled.now.disciplined.now.sizes.variables races settled.now.disciplined.now.trace.now list.old
-        → HasReported (These races) plan.now.schedules settled.now.disciplined.now.trace.now K.taken K.failure_count sink.old sink.new result }
+    requires races { (races : List (ℕ × ℕ)) × ListsRaces (events_of settled.now) (variables_of settled.now) races (trace_of settled.now) list.old }
+    ensures { (races : List (ℕ × ℕ)) → ListsRaces (events_of settled.now) (variables_of settled.now) races (trace_of settled.now) list.old
+        → HasReported (These races) plan.now.schedules (trace_of settled.now) K.taken K.failure_count sink.old sink.new result }
 {
     write_front(sink, settled.disciplined.trace, list.count, &list.places)?;
     write_blocks(rt, alloc, sink, settled, list, plan)?;
