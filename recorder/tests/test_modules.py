@@ -146,7 +146,7 @@ class Modules(Recorded):
         recorder.must(recorder.call(self.program, env=recorder.settings(self.path)))
         answer = recorder.must(recorder.convert(self.path, "--stacks", self.folder / "stacks"))
         self.assertEqual(self.said(answer), [])
-        self.assertEqual(len(re.findall(rb"(?m)^.*\|w\(self\.c:3#\d+\)\|self\.c:[49]$", answer.stdout)), 2)
+        self.assertEqual(len(re.findall(rb"(?m)^.*\|w\(self\.c:7#\d+\)\|self\.c:[49]$", answer.stdout)), 2)
 
     def test_a_debug_file_that_is_a_fifo(self):
         """It isn't opened for good: nobody writes there."""

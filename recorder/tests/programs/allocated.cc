@@ -27,7 +27,7 @@ static void use() {
     cells[1].value = 7; /* IS Cell[1].value */
     many[1].hits = 7; /* IS Session[1].hits of allocated.cc:40 */
     one->value = 7; /* IS Other.value of allocated.cc:41 */
-    by_template->more = 7; /* IS Other.more of allocated.cc:13 */
+    by_template->more = 7; /* IS Other.more of allocated.cc:42 */
     shorter->two = 7; /* IS T.two */
     numbers[1] = 7; /* IS - */
 }

@@ -22,12 +22,12 @@ void *pool;
 __attribute__((noinline)) static void *get(size_t bytes) { return calloc(1, bytes); }
 
 __attribute__((noinline)) static void use_job(struct job *j, int k) {
-    pthread_mutex_lock(&j->lock);                            /* IS job.lock of used.c:22 */
-    j->done = 1;                                             /* IS job.done of used.c:22 */
-    j->counts[k]++;                                          /* IS job.counts[2] of used.c:22 */
-    (*j).at.column += k;                                     /* IS job.at.column of used.c:22 */
-    j->ready = 1;                                            /* IS job.ready/sent of used.c:22 */
-    pthread_mutex_unlock(&j->lock);                          /* IS job.lock of used.c:22 */
+    pthread_mutex_lock(&j->lock);                            /* IS job.lock of used.c:68 */
+    j->done = 1;                                             /* IS job.done of used.c:68 */
+    j->counts[k]++;                                          /* IS job.counts[2] of used.c:68 */
+    (*j).at.column += k;                                     /* IS job.at.column of used.c:68 */
+    j->ready = 1;                                            /* IS job.ready/sent of used.c:68 */
+    pthread_mutex_unlock(&j->lock);                          /* IS job.lock of used.c:68 */
 }
 
 /* A place that doesn't begin its block is certain if several accesses tell it. */
@@ -47,7 +47,7 @@ __attribute__((noinline, noipa)) static void put_link(struct link *l) {
 
 static void *use(void *argument) {
     use_job(first, 2);
-    first->next->done = 2;                                   /* IS job.done of used.c:22 */
+    first->next->done = 2;                                   /* IS job.done of used.c:68 */
     struct place *inside = &pairs[1].two;
     inside->column = 7;                                      /* IS place+24.column */
     leave(inside);

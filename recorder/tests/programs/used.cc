@@ -10,11 +10,11 @@ struct Counter : Base {
     long parts[2];
     static Counter *last;
     void add(int k) {
-        hits++; /* IS Counter.hits of used.cc:29 */
-        total += 2; /* IS Counter.total of used.cc:29 */
-        next->hits = 3; /* IS Counter.hits of used.cc:29 */
-        parts[k] = 4; /* IS Counter.parts[1] of used.cc:29 */
-        last->total = 5; /* IS Counter.total of used.cc:29 */
+        hits++; /* IS Counter.hits of used.cc:49 */
+        total += 2; /* IS Counter.total of used.cc:49 */
+        next->hits = 3; /* IS Counter.hits of used.cc:50 */
+        parts[k] = 4; /* IS Counter.parts[1] of used.cc:49 */
+        last->total = 5; /* IS Counter.total of used.cc:49 */
     }
 };
 struct Queue { Counter *next, *tail; };
