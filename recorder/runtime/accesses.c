@@ -42,6 +42,7 @@ __attribute__((noinline)) void note_access(enum operation operation, uint64_t ad
     thread *t = self;
     int is_read = operation == OP_READ, is_in_copy = is_read && t && ends_copy(t, size, caller);
     if (address % GRAIN + size > GRAIN && hold_range(operation, address, size, caller)) return;
+    if (!t) note_stranger();
     if (!others || !size || !enter_access(is_in_copy ? NEVER_YIELD : MAY_YIELD)) return;
     if (!is_read) t->last = write_at(size, caller);
     put(t, operation, (void *)address, size, caller);
@@ -121,6 +122,7 @@ static uint64_t last_of(int is_changed, pointer p, uint64_t caller) {
 }
 
 static void after_atomic(thread *t, uint64_t last) {
+    if (!self) note_stranger();
     if (!t) return;
     if (last) note_spin(t, last);
     else t->last = 0;
@@ -172,7 +174,7 @@ ATOMIC static void store_16(volatile uint128_t *p, uint128_t value) {
 
 int load_acquire(const int *p, uint64_t caller) {
     int value, order = __ATOMIC_ACQUIRE;
-    if (self && self->inside) return LOAD(p);
+    if (!self || self->inside) return LOAD(p);
     ATOMICALLY(OP_ATOMIC_LOAD, 32, value = LOAD(p), 0)
     return value;
 }

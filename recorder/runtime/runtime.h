@@ -254,7 +254,8 @@ void next_segment(thread *t);          /* in a hook, before it does anything */
 void stop_recording(const char *reason);
 void note_end(const char *how);
 const char *own_end(void);             /* as note_end takes it, where nothing stopped the recording */
-void note_stranger(void);              /* a hook met a thread that nobody saw begin: accesses are missed */
+/* a hook met a thread that nobody saw begin: its accesses are missed; a library's without hooks may call */
+void note_stranger(void);
 void note_text(const char *line);      /* adds a line to the header */
 const char *own_command(void);         /* that line of the header */
 void unlock_record(void);

@@ -551,7 +551,6 @@ static __attribute__((noinline)) void end_slice(thread *t) {
 /* Without the turn: put asks for it. */
 thread *enter_access(enum yields yields) {
     thread *t = self;
-    if (!t) note_stranger();
     if (!t || !recording || t->inside) return 0;
     begin_inside(t);
     count_quick(t);

@@ -113,6 +113,56 @@ int main(void) {
     return 0;
 }
 """
+# Its thread is begun past the recorder, as an allocator's own may be, takes its locks, and calls the program
+# if it is asked to.
+OWN_THREAD = """#define _GNU_SOURCE
+#include <dlfcn.h>
+#include <pthread.h>
+#include <stdlib.h>
+#include <unistd.h>
+typedef int creator(pthread_t *, const pthread_attr_t *, void *(*)(void *), void *);
+static pthread_mutex_t lock = PTHREAD_MUTEX_INITIALIZER;
+static pthread_cond_t changed = PTHREAD_COND_INITIALIZER;
+static pthread_once_t once = PTHREAD_ONCE_INIT;
+static int rounds;
+static void begin(void) { rounds = 1; }
+static void *tidy(void *call) {
+    pthread_once(&once, begin);
+    for (int k = 0; k < 100; k++) {
+        pthread_mutex_lock(&lock);
+        rounds++;
+        pthread_cond_signal(&changed);
+        pthread_mutex_unlock(&lock);
+        free(malloc(100));
+        usleep(1);
+    }
+    if (call) ((void (*)(void))call)();
+    return call;
+}
+void tidies(void (*call)(void)) {
+    pthread_t t;
+    ((creator *)dlsym(dlopen("libc.so.6", RTLD_NOW), "pthread_create"))(&t, 0, tidy, call);
+    pthread_mutex_lock(&lock);
+    while (rounds < 50) pthread_cond_wait(&changed, &lock);
+    pthread_mutex_unlock(&lock);
+    if (call) ((int (*)(pthread_t, void **))dlsym(dlopen("libc.so.6", RTLD_NOW), "pthread_join"))(t, 0);
+}
+"""
+TIDIED = """#include <pthread.h>
+void tidies(void (*)(void));
+static int own, calls;
+static void call(void) { calls++; }
+static void *work(void *unused) {
+    own++;
+    return unused;
+}
+int main(int argc, char **argv) {
+    pthread_t t;
+    tidies(argc > 1 ? call : 0);
+    pthread_create(&t, 0, work, 0);
+    return pthread_join(t, 0) || calls != argc - 1;
+}
+"""
 
 # Its constructor and destructor use what all threads share, one after the other by the loader's own lock.
 PLUGIN = """extern int loads;
@@ -294,6 +344,15 @@ class Libraries(recorder.Case):
     def test_handlers_of_fork_that_come_before_the_recorders(self):
         """A process made by fork writes nothing into its parent's record."""
         self.right(FORK_HANDLERS, FORKS, 8)
+
+    def test_a_librarys_own_thread(self):
+        """Code without hooks may begin it unseen. The recording is incomplete if it comes to code that has
+        some."""
+        self.right(OWN_THREAD, TIDIED, 4)
+        ran = recorder.call(recorder.COMMAND, "./program", "call", cwd=self.folder,
+                            env={**os.environ, "SHB": str(recorder.SHB)})
+        self.assertEqual(ran.returncode, 124, ran.stderr.decode())
+        self.assertIn(b"is not the whole run: threads ran whose begin isn't seen", ran.stderr)
 
     def test_perhaps_ordered(self):
         """A library without hooks hands a block on, and both sides call it: the race is marked. One of a
