@@ -134,7 +134,7 @@ def arguments(words):
         parser.error("no program is named")
     found.program, *found.arguments = found.words
     if found.join and not found.folder:
-        parser.error("--join: -o names the folder of the joined results")
+        parser.error("--join: -o DIR, before the folders, names that of the joined results")
     found.folder = os.path.abspath(found.folder or os.path.basename(found.program) + ".shb")
     if "%p" in found.folder or "%s" in found.folder:
         parser.error("the folder of the results can't have %p or %s in its name")
