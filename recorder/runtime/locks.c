@@ -1,5 +1,6 @@
 /* The calls of POSIX, C11 and C++ that order threads. */
 #include "ordering.h"
+#include <linux/futex.h>
 #include <semaphore.h>
 #include <threads.h>
 #include <unwind.h>
@@ -124,9 +125,32 @@ static void run_once(void) {
     note_atomic(OP_ATOMIC_LOAD, o.flag, sizeof *o.flag, o.caller);
     o.function();
 }
+
+/* Is a thread at it, by the flag's state?  That has the number of forks, too: what the parent was at is begun
+   anew in a child. The C library alone knows the number, and shows it in a flag of ours. */
+static __thread pthread_once_t own;
+static __thread int own_state;
+static void look(void) { own_state = own; }
+static int is_at_it(int state) {
+    own = PTHREAD_ONCE_INIT;
+    REAL(pthread_once)(&own, look);
+    return state == own_state;
+}
+
+#define WAITS_WHILE(flag, state) REAL(syscall)(SYS_futex, flag, FUTEX_WAIT_PRIVATE, state, 0, 0, 0)
+static void wait_for_once(pthread_once_t *flag, int state) {
+    thread *t = enter(YIELDS_BY_LIST);
+    if (t && !waits_for_list(t)) BLOCKING(t, WAITS_WHILE(flag, state));
+    if (t) leave(t);
+    else WAITS_WHILE(flag, state);
+}
+
+/* Who finds that nobody is at it has the turn still when it begins. */
 static int do_once(pthread_once_t *flag, void (*function)(void), uint64_t caller) {
-    if (load_acquire(flag, caller) & IS_DONE) return 0;
-    let_others_run();
+    int state;
+    while ((state = load_acquire(flag, caller)) && !(state & IS_DONE) && is_at_it(state))
+        wait_for_once(flag, state);
+    if (state & IS_DONE) return 0;
     once = (struct once){function, flag, caller};
     int error = REAL(pthread_once)(flag, run_once);
     note_atomic(OP_ATOMIC_LOAD, flag, sizeof *flag, caller);

@@ -82,6 +82,12 @@ class Processes(recorder.Case):
         ran = recorder.must(recorder.call(self.program("daemon.c"), env=self.settings("one.rec")))
         self.assertEqual(ran.stderr.count(b"a process made by fork starts threads and runs unrecorded"), 1)
 
+    def test_a_child_does_anew_what_its_parent_was_at(self):
+        program = self.program("once_in_child.c")
+        for name in "%p.rec", "one.rec":
+            ran = recorder.must(recorder.call("timeout", "60", program, env=self.settings(name)))
+            self.assertEqual(ran.stderr, b"")
+
     @AS_ROOT
     def test_a_child_that_gives_up_its_rights_or_its_root_before_it_starts_threads(self):
         program = self.program("gives_up.c")

@@ -84,6 +84,13 @@ class Replays(recorder.Case):
                 runs[name] = ran.stdout, ran.stderr, (self.folder / f"{name}.turns").read_bytes()[HEADER:]
             self.assertEqual(runs["first"], runs["second"], f"seed {seed}")
 
+    def test_who_does_what_is_done_once(self):
+        """Also where it is tried again."""
+        program = self.program("once.cc")
+        for seed in range(1, 13):
+            _, turns = self.run_it("first", seed, program)
+            self.assertEqual(self.run_it("second", seed + 20, program, replay="first"), ("", turns), seed)
+
     def test_a_turn_that_one_of_many_takes_over(self):
         """By the list it alone may, and others look at the holder."""
         program = self.program("among_many.c")
