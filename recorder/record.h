@@ -10,7 +10,7 @@
 #include <stdint.h>
 
 #define ANY_RECORD "shb-record "
-#define RECORD_MAGIC ANY_RECORD "11\n"
+#define RECORD_MAGIC ANY_RECORD "12\n"
 #define LINE_END_IN_PATH 1
 #define HEADER_BYTES 65536
 #define ENDED_BYTES 256
@@ -46,8 +46,10 @@
 #define ORDER_BITS 12
 /* of a late access: an earlier one of the phase was held back, and forgotten */
 #define IS_REPEATED (1ull << POSITION_BITS)
-/* of an atomic access: the memory order stands above the size, as __ATOMIC_.. */
+/* of an atomic access: the memory order stands above the size, as __ATOMIC_.., and above that IS_EXCHANGE of
+   an exchange that changed the value */
 #define ATOMIC_SIZE_BITS 5
+#define IS_EXCHANGE (8 << ATOMIC_SIZE_BITS)
 
 struct record {
     /* 48 bits: the address (of a fork or join: the other thread); 16: the thread */

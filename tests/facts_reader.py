@@ -286,10 +286,10 @@ class Group:
         """By the event before which it is done: what stores give, and loads that read them take."""
         found = collections.defaultdict(list)
         for at, use in enumerate(self.reader.uses):
-            its = self.sources(at, -1) if use.kind in ("load", "update") else ()
+            its = self.sources(at, -1) if use.kind in ("load", "exchange", "update") else ()
             found[use.event] += [(use.thread, "take", id(store)) for store in its
                                  if (store.name, store.location, use.location) in keys]
-            if use.kind in ("store", "update"):
+            if use.kind in ("store", "exchange", "update"):
                 found[use.event].append((use.thread, "give", id(use)))
         return found
 
@@ -399,9 +399,9 @@ class Group:
             use = self.reader.uses[places[place]]
             if use.event <= event:
                 return
-            if use.kind in ("store", "update"):
+            if use.kind in ("store", "exchange", "update"):
                 yield use
-            if use.kind == "store":
+            if use.kind in ("store", "exchange"):
                 return
 
     def handed(self, first, second):
@@ -412,14 +412,14 @@ class Group:
         begin, end = (bisect.bisect_right(self.reader.events, access.number) for access in (first, second))
         for at in range(begin, end) if not first.is_free else ():
             load = uses[at]
-            if (load.kind in ("load", "update") and load.thread == second.thread
+            if (load.kind in ("load", "exchange", "update") and load.thread == second.thread
                 and load.name != first.variable):
                 stores = [store for store in self.sources(at, first.number) if store.thread == first.thread]
                 load = load._replace(order=self.order(at, second.number)) if stores else load
                 found.update((store.name, store.location, load.location, store.kind, load.kind, store.order,
                               load.order) for store in stores
                              if self.misses(store, load)
-                             and (second.is_free or not store.kind == load.kind == "update"))
+                             and (second.is_free or load.kind != "update" or store.kind == "store"))
         return found
 
     @staticmethod
@@ -469,7 +469,7 @@ class Group:
     def has_published(self):
         common = self.common_of_places()
         if self.fact["form"] == "without":  # beside a lock an update hands nothing on
-            common = [found if all(key[3] == "store" for key in found) else () for found in common]
+            common = [found if all(key[3] != "update" for key in found) else () for found in common]
         return bool(common) and all(common) and not self.fact.get("is_refuted")
 
     # ---- freed ----

@@ -2,6 +2,7 @@
 uses of atomics, and frees. Each has its file of stacks, as the recorder writes both."""
 
 import collections
+import itertools
 import random
 
 
@@ -169,6 +170,7 @@ class Made:
 
     def atomic(self, thread, kind, name, order, line):
         chain = self.chains.get(name, [])       # (thread, gives, number)
+        kind = "exchange" if kind == "update" and self.pick.random() < 0.3 else kind
         position = len(self.lines) + 1
         self.uses.append(b"use %d\t%s\t%s\t%s\t%s %s" % (position, name, thread, line, kind.encode(), order))
         if kind != "store" and order in (b"acquire", b"both"):
@@ -188,7 +190,8 @@ class Made:
                 if other != thread:
                     self.event(thread, b"acq", b"%s@%d>%s" % (name, number, other), line)
                     self.event(thread, b"rel", b"%s@%d>%s" % (name, number, other), line)
-        kept = chain if kind == "update" else [it for it in chain if it[0] == thread] if not gives else []
+        goes_on = [] if gives else [it for it in chain if it[0] == thread]
+        kept = goes_on if kind == "store" else chain
         self.chains[name] = [*kept, (thread, gives, number)]
 
     def alone(self, word, line):
@@ -266,18 +269,18 @@ def handed_itself():
     return trace, b"shb-stacks 1 %020d\n" % 4 + bytes(16) + uses
 
 
-def counted():
-    """A counter that two threads update between their accesses, in a trace with a free."""
+def counted(first, second):
+    """An atomic that two threads use between their accesses, each in a way, in a trace with a free."""
     trace = b"T0|w(x)|f.c:1\nT0|r(B)|f.c:2\nT1|r(B)|f.c:2\nT1|r(x)|f.c:3\nT1|w(y)|f.c:4\n"
-    uses = b"use 2\tB\tT0\tf.c:2\tupdate relaxed\nuse 3\tB\tT1\tf.c:2\tupdate relaxed\nfree 5 5\n"
-    return trace, b"shb-stacks 1 %020d\n" % 5 + bytes(20) + uses
+    uses = b"".join(b"use %d\tB\tT%d\tf.c:2\t%b relaxed\n" % use for use in ((2, 0, first), (3, 1, second)))
+    return trace, b"shb-stacks 1 %020d\n" % 5 + bytes(20) + uses + b"free 5 5\n"
 
 
-def counted_beside():
-    """A counter that one thread updates and the other loads between their accesses, the first of which
+def counted_beside(kind):
+    """An atomic that one thread updates and the other loads between their accesses, the first of which
     holds a lock."""
     trace = b"T0|acq(m)|f.c:1\nT0|w(x)|f.c:2\nT0|rel(m)|f.c:3\nT0|r(B)|f.c:4\nT1|r(B)|f.c:5\nT1|r(x)|f.c:6\n"
-    uses = b"use 4\tB\tT0\tf.c:4\tupdate relaxed\nuse 5\tB\tT1\tf.c:5\tload relaxed\n"
+    uses = b"use 4\tB\tT0\tf.c:4\t%b relaxed\nuse 5\tB\tT1\tf.c:5\tload relaxed\n" % kind
     return trace, b"shb-stacks 1 %020d\n" % 6 + bytes(24) + uses
 
 
@@ -362,10 +365,11 @@ def read_locked():
 
 def made(how_many, seed):
     """What is rare in made traces comes first."""
-    yield from map(handed_on, (b"update", b"store", b"load"))
+    yield from map(handed_on, (b"update", b"store", b"load", b"exchange"))
     yield from (fenced(b"relaxed", 4), fenced(b"relaxed", 5), fenced(b"release", 5))
     yield from (freed_and_handed_on(), handed_itself())
-    yield from (counted(), counted_beside(), handed_by_others())
+    yield from itertools.starmap(counted, itertools.product((b"update", b"exchange"), repeat=2))
+    yield from (*map(counted_beside, (b"update", b"exchange")), handed_by_others())
     yield from (both_locks(), crossed_locks(), at_times(), freed_after(), nested())
     yield from map(two_variables, (b"", b"m", b"n"))
     yield read_locked()

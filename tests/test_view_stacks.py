@@ -374,20 +374,31 @@ class Stacks(program.Case):
             (("T1 load relaxed", "main store relaxed"), None, None),
                 (("main store relaxed", "T2 store relaxed", "T1 load relaxed"), None, None),
             (("T1 store relaxed", "T1 load relaxed"), None, None),
-                (("main update relaxed", "T1 update relaxed"), None, None)):
+                (("main update relaxed", "T1 update relaxed"), None, None),
+                (("main exchange relaxed", "T2 exchange relaxed", "T1 load relaxed"), None, None),
+                (("main exchange relaxed", "T1 update relaxed"), None, None)):
             with self.subTest(uses):
                 out = self.with_uses(3, uses)
                 self.assertEqual("hand this on" in out, words is not None)
-                lock = "mutex" if "update" in " ".join(uses) else "lock"
+                lock = "mutex" if re.search("update|exchange", " ".join(uses)) else "lock"
                 self.assertIn(says.format(*words) if words else f"   In this trace no {lock} is held", out)
                 headline = headline or f"a.c:5 writes, a.c:7 reads without a {lock}"
                 self.assertIn(f"1. a.c:9#2: {headline} (1 place)\n", out)
         for event in (2, 4):   # before the first access, and after the second
             self.assertNotIn("hand this on", self.with_uses(event, ("main store relaxed", "T1 load relaxed")))
 
+    def test_an_exchange_hands_on(self):
+        """Also to another one, as a counter's update doesn't, and what an update left."""
+        for kind in "exchange", "update":
+            with self.subTest(kind):
+                out = self.with_uses(3, (f"main {kind} relaxed", "T1 exchange acquire"))
+                self.assertIn(f"   main and T1 hand this on by the atomic slot: a.c:8 {kind}s it relaxed "
+                              "after the first access, and a.c:8 exchanges it with acquire before the "
+                              "second. Without release that orders nothing.\n", out)
+
     def with_uses(self, event, uses):
         """What is said of a race of main's write with T1's read, where an atomic is used before an event."""
-        lines = {"store": "a.c:6", "load": "a.c:4", "update": "a.c:8", "fence": "a.c:3"}
+        lines = {"store": "a.c:6", "load": "a.c:4", "update": "a.c:8", "exchange": "a.c:8", "fence": "a.c:3"}
         trace = (b"main|fork(T1)|a.c:1\nmain|w(a.c:9#2)|a.c:5\nT1|r(a.c:9#2)|a.c:7\n"
                  b"main|join(T1)|a.c:8\nmain|fork(T2)|a.c:9\n")
         tables = ""

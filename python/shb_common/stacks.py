@@ -16,7 +16,7 @@ BEGIN_BYTES = 34
 NUMBER_BYTES = 4    # of an event's stack
 BLOCK = rb"(?s).*#([0-9]{1,18})(?:\+[0-9]+)?"  # a variable in a block, as the recorder names it
 ORDERS = b"relaxed", b"acquire", b"release", b"both"
-USES = b"load", b"store", b"update", b"fence"
+USES = b"load", b"store", b"exchange", b"update", b"fence"
 NUMBERED = b"stack", b"block", b"free"
 NAMED = b"frame", b"system-frame", b"thread", b"source", b"line", b"local", b"use", b"again"
 OTHER = "doesn't have the stacks of this trace"
@@ -39,8 +39,9 @@ class BadStacks(Exception):
 
 
 class AtomicUse(collections.namedtuple("AtomicUse", "event name thread location kind order is_again")):
-    """A use of an atomic before an event: `kind` is load, store, update or, without a name, fence; `order`
-    relaxed, acquire, release or both; `is_again` says that it represents omitted ones before it too."""
+    """A use of an atomic before an event: `kind` is load, store, exchange (that changed the value), update
+    or, without a name, fence; `order` relaxed, acquire, release or both; `is_again` says that it represents
+    omitted ones before it too."""
 
     def gives(self):
         """Whether it releases: what comes before it is ordered before an acquire of its value."""
@@ -51,7 +52,8 @@ class AtomicUse(collections.namedtuple("AtomicUse", "event name thread location 
 
     def words(self):
         """What it does, as parts."""
-        does = {b"load": "reads it", b"store": "writes it", b"update": "updates it"}[self.kind]
+        does = {b"load": "reads it", b"store": "writes it", b"exchange": "exchanges it",
+                b"update": "updates it"}[self.kind]
         return [does, {b"relaxed": " relaxed", b"acquire": " with acquire", b"release": " with release",
                        b"both": " with acquire and release"}[self.order]]
 
@@ -168,6 +170,11 @@ class Stacks:
     def atomics(self):
         """The names of atomics that have a use."""
         return {use.name for use in self.uses}
+
+    @functools.cached_property
+    def exchanges(self):
+        """The names of atomics that are exchanged, each with where."""
+        return {(use.name, use.location) for use in self.uses if use.kind == b"exchange"}
 
     def of_event(self, event):
         return self.stack(self.numbers[event - 1]) if 0 < event <= len(self.numbers) else ()

@@ -33,7 +33,7 @@ class Facts:
         self.refuted = set()  # variables of which a trial says that they race whatever hands them on
         stacks = self.kinds.stacks
         # a spin lock of the program's own can't be seen
-        self.word = "mutex" if any(use.kind == b"update" for use in stacks.uses) else "lock"
+        self.word = "mutex" if any(use.kind in (b"exchange", b"update") for use in stacks.uses) else "lock"
         self.pairs = handed(stacks.uses, len(stacks.free_starts) > 0, stacks.lasting_locals)
         self.stores = stores_of(stacks.uses if self.again else ())
 

@@ -30,21 +30,26 @@ class Handed(collections.namedtuple("Handed", "store load fence name")):
         return store.name, store.location, load.location, store.kind, load.kind, store.order, load.order
 
 
+def may_count(store, load):
+    """Whether both update, as a counter is: that hands nothing on but what is freed. An exchange that leaves
+    the value as it was, as in a loop for a lock, is such an update too."""
+    return load.kind == b"update" and store.kind != b"store"
+
+
 def handed(uses, has_frees, locals):
     """By the threads of a store and of a load: what was handed on, in the order of the loads. Of a thread's
-    stores at one line the last counts. Without frees updates hand nothing on to each other. `locals` has the
-    names of atomics on stacks."""
+    stores at one line the last counts. `locals` has the names of atomics on stacks."""
     found, chains = collections.defaultdict(list), {}
     for use, fence in zip(uses, next_fences(uses)):
         # what the atomic has now: the last store of each way
         chain, way = chains.get(use.name, {}), (use.thread, *use[3:6])
-        if use.kind in (b"load", b"update"):
+        if use.kind != b"store":
             for store in chain.values():
                 if (store.thread != use.thread and not (store.gives() and use.takes())
-                    and (has_frees or store.kind != use.kind)):
+                    and (has_frees or not may_count(store, use))):
                     pair = Handed(store, use, fence, locals.get(use.name, use.name))
                     found[store.thread, use.thread].append(pair)
-        if use.kind == b"store":
+        if use.kind in (b"store", b"exchange"):
             chains[use.name] = {way: use}
         elif use.kind == b"update":
             chains[use.name] = {**chain, way: use}
@@ -55,7 +60,7 @@ def stores_of(uses):
     """By atomic and location its stores and updates: the thread, and the two events between which each is."""
     found, last = collections.defaultdict(list), {}
     for use in uses:
-        if use.kind in (b"store", b"update"):
+        if use.kind not in (b"load", b"fence"):
             after = last.get(use[1:4], 0) if use.is_again else use.event - 1
             found[use.name, use.location].append((use.thread, after, use.event))
             last[use[1:4]] = use.event
@@ -74,12 +79,11 @@ def next_fences(uses):
 
 def between(pairs, race, is_free):
     """What was handed on without an order between two accesses of a race: the store is after the first, the
-    load before the second. What is updated on both sides, as a counter is, hands nothing on but what is
-    freed."""
+    load before the second."""
     found, (first, second) = {}, race.events
     for pair in pairs:
         store, load = pair.store, pair.load
-        if (store.event > first and load.event <= second and (is_free or store.kind != load.kind)
+        if (store.event > first and load.event <= second and (is_free or not may_count(store, load))
             and store.name != variable_of(race)):
             pair = pair.seen_from(second)
             if pair.lacking():

@@ -75,7 +75,7 @@ def stale_of(found, facts, counting):
 def moves_of(found, counting, are_posts):
     """Of each racing line without a lock the move of its accesses before the last release of their threads,
     if each has its own: by that a thread may hand on what the line still uses. All are posts, or not all."""
-    locks, names = counting.access_kinds.locks, found.group.names
+    locks, stacks, names = counting.access_kinds.locks, counting.access_kinds.stacks, found.group.names
     for site in found.sites:
         if not site.partners or site.accesses[b"f"] or site.is_atomic() or site.bare < site.total:
             continue
@@ -89,7 +89,8 @@ def moves_of(found, counting, are_posts):
         before, after = collections.defaultdict(list), {}
         for _, (release, access) in sorted(moved.items()):
             before[release.begin].append(line_of(Access(release.thread, *access, site.location)))
-            after[release[3:]] = worded("the release of {} at {}", Code(called(release.lock, locks)),
+            word = "exchange" if (release.lock, release.location) in stacks.exchanges else "release"
+            after[release[3:]] = worded("the {} of {} at {}", word, Code(called(release.lock, locks)),
                                         place(release.location))
         what = listed(after.values(), MOST_NAMED)
         yield Change(set(names), before, {number: release.begin for number, (release, _) in moved.items()},

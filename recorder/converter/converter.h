@@ -63,6 +63,7 @@ static inline int is_atomic(enum operation operation) {
     return operation >= OP_ATOMIC_LOAD && operation <= OP_ATOMIC_UPDATE;
 }
 int acquires(const entry *e), releases(const entry *e);      /* of an atomic access or a fence */
+int is_exchange(const entry *e);
 u64 accessed_bytes(const entry *e);
 
 /* late.c: the entries of a record with each access in its place that is late. */

@@ -230,8 +230,9 @@ void carry_blocks(const char *path) {
 /* ---- what a record accesses ---- */
 /* The memory order of an atomic access or a fence: does it take over what a release gave, does it give on? */
 static u64 order_of(const entry *e) {
-    return e->operation == OP_FENCE ? size_of(e) : size_of(e) >> ATOMIC_SIZE_BITS;
+    return e->operation == OP_FENCE ? size_of(e) : size_of(e) % IS_EXCHANGE >> ATOMIC_SIZE_BITS;
 }
+int is_exchange(const entry *e) { return e->operation == OP_ATOMIC_UPDATE && size_of(e) & IS_EXCHANGE; }
 int acquires(const entry *e) { return order_of(e) != __ATOMIC_RELAXED && order_of(e) != __ATOMIC_RELEASE; }
 int releases(const entry *e) { return order_of(e) >= __ATOMIC_RELEASE; }
 

@@ -26,11 +26,11 @@
            the trace have this type, or a static variable has its name; or the program's part of a static's
        use EVENT TAB NAME TAB THREAD TAB LOCATION TAB KIND ORDER
            a use before this event of an atomic that several threads use, whether or not it is an event: a
-           load, store or update with the order relaxed, acquire, release or both. In the order in which they
-           happened each store and update, and each thread's first load of what another thread stored. A
-           store after a release fence is one with release. Of a fence with acquire the kind is fence, and
-           NAME is empty. Of a page's trace only those within its spans. Behind ORDER " again": it stands for
-           earlier ones of its kind too, which are omitted
+           load, store, exchange (that changed the value) or other update with the order relaxed, acquire,
+           release or both. In the order in which they happened each that writes, and each thread's first load
+           of what another thread stored. A store after a release fence is one with release. Of a fence with
+           acquire the kind is fence, and NAME is empty. Of a page's trace only those within its spans. Behind
+           ORDER " again": it stands for earlier ones of its kind too, which are omitted
        source NAME TAB PATH
            a source file, as locations name it, and where it was when it was compiled
        line LOCATION TAB SUM
@@ -408,7 +408,8 @@ void note_use(const entry *e, u64 object, int gives) {
     part name = variable_name(e->address, b), place = place_of(own_place(t, e->caller));
     fprintf(lines, "use %lu\t%.*s\t%s\t%.*s\t%s %s%s\n", written + 1, (int)name.length, name.at,
             thread_name(t), (int)place.length, place.at,
-            is_load ? "load" : is_store ? "store" : "update", orders[acquires(e) + 2 * (!is_load && gives)],
+            is_load ? "load" : is_store ? "store" : is_exchange(e) ? "exchange" : "update",
+            orders[acquires(e) + 2 * (!is_load && gives)],
             is_repeated(e) ? " again" : "");
 }
 

@@ -129,10 +129,11 @@ static void after_atomic(thread *t, uint64_t last) {
     leave(t);
 }
 
-/* Whether a compare-and-exchange is an update or a load is known after it. */
-static void after_exchange(thread *t, int done, pointer p, uint64_t size_and_order, uint64_t caller) {
-    if (t && others) put(t, done ? OP_ATOMIC_UPDATE : OP_ATOMIC_LOAD, p, size_and_order, caller);
-    after_atomic(t, last_of(done, p, caller));
+/* Whether a compare-and-exchange is an update or a load, and what an exchange is, is known after it. */
+static void after_exchange(thread *t, enum operation operation, int is_changed, pointer p,
+                           uint64_t size_and_order, uint64_t caller) {
+    if (t && others) put(t, operation, p, size_and_order, caller);
+    after_atomic(t, last_of(is_changed, p, caller));
 }
 
 /* An exchange of 16 bytes, for which __atomic_compare_exchange_n would be a call of another library. */
@@ -185,7 +186,8 @@ int load_acquire(const int *p, uint64_t caller) {
         type value, int order, int fail_order) { \
         thread *t = enter(MAY_YIELD); \
         int done = exchange(p, address, value); \
-        after_exchange(t, done, p, size_and_order(bits / 8, done ? order : fail_order), CALLER); \
+        after_exchange(t, done ? OP_ATOMIC_UPDATE : OP_ATOMIC_LOAD, done, p, \
+                       size_and_order(bits / 8, done ? order : fail_order), CALLER); \
         return r; \
     }
 
@@ -200,6 +202,21 @@ int load_acquire(const int *p, uint64_t caller) {
                        while (!exchange(p, &old, new)), last_of(new != old, p, caller)) \
         return old; \
     }
+/* One that leaves the value as it was is an update: it may be of a loop for a lock. A quick one repeats, and
+   counts as one that changes it. */
+#define SWAP(bits, type, load, exchange) \
+    ATOMIC PUBLIC type __tsan_atomic##bits##_exchange(volatile type *p, type value, int order) { \
+        uint64_t caller = CALLER, what = size_and_order(bits / 8, order); \
+        int is_quick = begin_quick_atomic(OP_ATOMIC_UPDATE, (uint64_t)p, bits / 8, what | IS_EXCHANGE, \
+                                          caller); \
+        thread *t = is_quick ? 0 : enter(MAY_YIELD); \
+        type old = load(p); \
+        while (!exchange(p, &old, value)) ; \
+        if (is_quick) end_quick_atomic(last_of(old != value, p, caller)); \
+        else after_exchange(t, OP_ATOMIC_UPDATE, old != value, p, old != value ? what | IS_EXCHANGE : what, \
+                            caller); \
+        return old; \
+    }
 #define ATOMICS(bits, type, load, store, compare) \
     ATOMIC PUBLIC type __tsan_atomic##bits##_load(const volatile type *p, int order) { \
         uint64_t caller = CALLER; \
@@ -211,7 +228,7 @@ int load_acquire(const int *p, uint64_t caller) {
         uint64_t caller = CALLER; \
         ATOMICALLY(OP_ATOMIC_STORE, bits, store(p, value), 0) \
     } \
-    UPDATE(bits, type, exchange, load, compare, value) \
+    SWAP(bits, type, load, compare) \
     UPDATE(bits, type, fetch_add, load, compare, old + value) \
     UPDATE(bits, type, fetch_sub, load, compare, old - value) \
     UPDATE(bits, type, fetch_and, load, compare, old & value) \

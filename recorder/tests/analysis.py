@@ -221,7 +221,7 @@ class Analysis:
     # ---- atomics ----
     def takes_value(self, step, t):
         gifts = self.atomics[step.address].gifts
-        if step.size >> 5 not in (RELAXED, RELEASE):
+        if step.size >> 5 & 7 not in (RELAXED, RELEASE):
             for _, gave in gifts:
                 take(self.clocks[t], gave)
         else:
@@ -230,7 +230,7 @@ class Analysis:
     def gives_value(self, step, t):
         """A store begins a release sequence, or goes on with that of its own thread."""
         atomic = self.atomics[step.address]
-        releases = step.size >> 5 >= RELEASE or t in self.fenced
+        releases = step.size >> 5 & 7 >= RELEASE or t in self.fenced
         if step.operation == "ATOMIC_STORE":
             atomic.gifts = [] if releases else [gift for gift in atomic.gifts if gift[0] == t]
         if releases:

@@ -162,7 +162,7 @@ class MadeByHand(recorder.Case):
                    entry(1, "START", 0x30000000, 0x500, 4096), before,
                    frames, entry(0, "WRITE", local, self.main + 20, 4), entry(1, "WRITE", local, 0x200, 4),
                    behind]
-        header = b"shb-record 11\n0 ffffff 0 " + os.fsencode(self.program) + b"\n"
+        header = b"shb-record 12\n0 ffffff 0 " + os.fsencode(self.program) + b"\n"
         self.record.write_bytes(header.ljust(65536 - 256, b"\0") + b"whole".ljust(256, b"\0")
                                 + b"".join(entries))
 

@@ -179,7 +179,7 @@ class Damaged(recorder.Case):
             for step in (4, 8, 40):
                 entries += [entry(thread, "WRITE", at + k, 0x200 + thread, min(step, size - k))
                             for k in range(0, min(size, 200), step) for thread in (0, 1)]
-        header = b"shb-record 11\n0 ffffff 0 " + os.fsencode(program) + b"\n"
+        header = b"shb-record 12\n0 ffffff 0 " + os.fsencode(program) + b"\n"
         return header.ljust(65536 - 256, b"\0") + b"whole".ljust(256, b"\0") + b"".join(entries)
 
     def damaged(self, good, places):

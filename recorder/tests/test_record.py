@@ -10,7 +10,7 @@ import struct
 
 import recorder
 
-HEADER = b"shb-record 11\n".ljust(65536 - 256, b"\0") + b"whole".ljust(256, b"\0")
+HEADER = b"shb-record 12\n".ljust(65536 - 256, b"\0") + b"whole".ljust(256, b"\0")
 DEFINED = re.search(r"enum operation \{(.*?)\n\};", (recorder.SOURCES / "record.h").read_text(), re.S)[1]
 OPERATIONS = re.findall(r"OP_\w+", re.sub(r"/\*.*?\*/", "", DEFINED))
 SIZE_FOLLOWS = 1023
@@ -433,7 +433,7 @@ def damaged_records():
         yield bytes(record)
     yield from (HEADER + random_bytes(draw, 16 * entries) for entries in range(20))
     yield random_bytes(draw, 70000)
-    yield (b"shb-record 11\nffff 1 2 \n1 2\nx y z\n0 fff 0 --help\n0 ffffffffffff 0 /\n".ljust(65536, b"1")
+    yield (b"shb-record 12\nffff 1 2 \n1 2\nx y z\n0 fff 0 --help\n0 ffffffffffff 0 /\n".ljust(65536, b"1")
            + ENTRIES)
 
 
@@ -478,7 +478,7 @@ class Damaged(recorder.Case):
                                       self.folder / "app")
         recorder.must(recorder.call("gcc", "-g", *recorder.two_of_one_name(self.folder / "sources"), "-o",
                                     program, "-pthread"))
-        module = b"shb-record 11\n0 ffffff 0 " + os.fsencode(program) + b"\n"
+        module = b"shb-record 12\n0 ffffff 0 " + os.fsencode(program) + b"\n"
         record.write_bytes(module.ljust(65536 - 256, b"\0") + b"whole".ljust(256, b"\0") + ENTRIES)
         for number, damaged in enumerate(damaged_programs(program.read_bytes())):
             program.write_bytes(damaged)
@@ -494,7 +494,7 @@ class Damaged(recorder.Case):
         recorder.must(recorder.call("gcc", "-g", *recorder.two_of_one_name(self.folder / "sources"), "-o",
                                     program, "-pthread"))
         record.write_bytes(
-            (b"shb-record 11\n0 ffffff 0 " + os.fsencode(program) + b"\n").ljust(65536 - 256, b"\0")
+            (b"shb-record 12\n0 ffffff 0 " + os.fsencode(program) + b"\n").ljust(65536 - 256, b"\0")
                            + b"whole".ljust(256, b"\0") + ENTRIES)
         program.write_bytes(program.read_bytes().replace(b".debug_line_str", b".debug_line_xxx"))
         self.assertEqual(self.convert(converter, record), 0)
@@ -568,8 +568,8 @@ class Damaged(recorder.Case):
 
     def test_a_record_of_another_version(self):
         path = self.folder / "app.rec"
-        for version in (b"5", b"12"):
-            path.write_bytes(HEADER.replace(b"11", version, 1).ljust(65536, b"\0")[:65536])
+        for version in (b"5", b"11"):
+            path.write_bytes(HEADER.replace(b"12", version, 1).ljust(65536, b"\0")[:65536])
             answer = recorder.convert(path)
             self.assertEqual((answer.returncode, answer.stdout), (2, b""))
             self.assertIn(b"is a record of version " + version + b", by another version of the recorder",

@@ -27,6 +27,26 @@ int main(void) {
     return pthread_join(t, 0);
 }
 """
+EXCHANGES = """#include <pthread.h>
+static int word;
+static void *work(void *unused) {
+    int nine = 9;
+    __atomic_exchange_n(&word, 9, __ATOMIC_RELEASE);
+    __atomic_exchange_n(&word, 9, __ATOMIC_RELAXED);
+    __atomic_compare_exchange_n(&word, &nine, 8, 0, __ATOMIC_ACQUIRE, __ATOMIC_RELAXED);
+    __atomic_fetch_add(&word, 1, __ATOMIC_ACQ_REL);
+    return 0;
+}
+static void *look(void *unused) { return __atomic_load_n(&word, __ATOMIC_ACQUIRE) == 9 ? 0 : unused; }
+int main(void) {
+    pthread_t t;
+    for (int k = 0; k < 2; k++) {
+        pthread_create(&t, 0, k ? look : work, 0);
+        pthread_join(t, 0);
+    }
+    return 0;
+}
+"""
 
 
 class Uses(recorder.Case):
@@ -153,6 +173,19 @@ class Uses(recorder.Case):
                                        stacks))
         found = [line for line in stacks.read_bytes().split(b"\n") if line.startswith(b"use ")]
         self.assertEqual(found, [b"use 3\t%#x\tmain\t0x103\tstore relaxed" % LOCK])
+
+    def test_which_updates_are_exchanges(self):
+        """Those that leave another value, whatever had been there."""
+        source, program, record, stacks = (self.folder / name for name in ("a.c", "a", "app.rec", "stacks"))
+        source.write_text(EXCHANGES)
+        recorder.build(source, "-O1", program)
+        recorder.must(recorder.call(program, env=recorder.settings(record)))
+        recorder.must(recorder.convert(record, "--stacks", stacks))
+        found = [line.split("\t") for line in stacks.read_text(errors="replace").split("\n")
+                 if line.startswith("use ")]
+        self.assertEqual([(thread, how) for _, _, thread, _, how in found], [
+            ("T1.work", "exchange release"), ("T1.work", "update relaxed"), ("T1.work", "update acquire"),
+            ("T1.work", "update both"), ("T2.look", "load acquire")])
 
     def test_what_was_read_of_another_thread_in_the_whole_run(self):
         """Also behind the end of the page's trace, and of what a thread wrote atomically; not of its own."""
