@@ -289,6 +289,7 @@ void share_fence(const entry *e);
 void forget_states(void);              /* of objects, between the passes */
 void begin_visits(void);               /* of each trace */
 void write_holds(u32 t);               /* acquires of what it holds that aren't in the trace */
+const hold *first_hold(u32 t), *hold_behind(const hold *h);  /* in the order of acquires; or null */
 typedef void (*held_lock)(const char *operation, u32 t, const hold *h);
 /* those whose acquires are in the trace, the oldest first */
 void each_held(held_lock give, const char *operation);

@@ -131,7 +131,7 @@ static inline __attribute__((always_inline)) void pass(void (*step)(const entry 
         step(&e);
         if (b && step == write_events && operation == OP_ALLOC) name_block(b, &e, earlier);
         if (extra_steps <= MAX_EXTRA_STEPS || is_for_page()) continue;
-        shortened = "where long ranges, deep stacks, held locks or many threads take too much work";
+        shortened = "where long ranges, deep stacks or many threads take too much work";
         record_count = i;
     }
 }

@@ -5,9 +5,6 @@
 #include <string.h>
 #include "converter.h"
 
-/* What a store or an update gives on to those who read it: a number of the object's own, and who gave it. If
-   it is locked, whoever takes the lock of the object's head gets it too. */
-typedef struct { u32 version, giver, locked; } gift;
 /* Who gave a version, or NOBODY, and up to which one the giver had taken them. */
 typedef struct { u32 giver, taken; } given;
 /* A post of a semaphore: its number, of the object's own, and up to which one its thread had taken them. */
@@ -23,7 +20,7 @@ typedef struct {
     /* how often it gave something; the number of the lock of its updates */
     u32 version, head;
     u32 stores;                        /* of the atomic: so far */
-    VECTOR(gift) gifts;                /* what its present value gives */
+    u32 gifts, first_gift, last_gift;  /* what its present value gives: how many sights; their list */
     VECTOR(given) given;               /* by versions, if the program has fences */
     u32 begun;                         /* the version before the present value's first */
     /* of a semaphore: the last post of each thread, in their order, and not yet forgotten ones; how many were
@@ -41,10 +38,17 @@ typedef struct {
 static INTERNED(object) objects;
 /* For a thread and an object: the last version, post or round that the thread has seen, and the last version
    that it will take at a fence, with the number of that note; the last that it gave itself, or its last post,
-   and behind how many stores. */
-typedef struct { u32 last, noted, note, gave, stores; } sight;
+   and behind how many stores. `gift` is the version by which the present value gives on what the thread gave,
+   or 0; if it is locked, whoever takes the lock of the object's head gets it too. Those of an object are a
+   list by the numbers of sights, the oldest first. */
+typedef struct { u32 last, noted, note, gave, stores, gift, giver, locked, before, behind; } sight;
 static INTERNED(sight) seen;
+static sight *sight_at(u32 number) { return &seen.at[number - 1]; }
 static INTERNED(u32) version_readers;  /* for object and version: the list of those who will read it */
+
+static VECTOR(hold) holds;             /* their numbers begin at 1 */
+static u32 free_hold;                  /* one that has ended; `behind` it is another one */
+static INTERNED(u32) last_holds;       /* by lock and thread; not of those that only order */
 
 static u64 index_of(const object *o) { return o - objects.at; }
 
@@ -89,23 +93,38 @@ static u32 add_version(object *o, u32 giver, u32 taken) {
     return ++o->version;
 }
 
+static void drop_gift(object *o, u32 number) {
+    sight *s = sight_at(number);
+    *(s->before ? &sight_at(s->before)->behind : &o->first_gift) = s->behind;
+    *(s->behind ? &sight_at(s->behind)->before : &o->last_gift) = s->before;
+    s->gift = 0;
+    o->gifts--;
+}
+
+static sight *add_gift(object *o, u32 number, u32 t, u32 version, int locked) {
+    sight *s = sight_at(number);
+    s->gift = version, s->giver = t, s->locked = locked, s->before = o->last_gift, s->behind = 0;
+    *(s->before ? &sight_at(s->before)->behind : &o->first_gift) = number;
+    o->last_gift = number;
+    o->gifts++;
+    return s;
+}
+
 /* What t gave before, and what it has taken, is in what it gives now. */
-static void give(object *o, u32 t, int locked) {
-    u32 last = *seen_by(o, t);
-    u64 kept = 0;
-    EACH(g, o->gifts.at, o->gifts.count)
-        if (g->giver != t && g->version > last) o->gifts.at[kept++] = *g;
-    o->gifts.count = kept;
-    *PUSH(o->gifts) = (gift){add_version(o, t, last), t, locked};
+static sight *give(object *o, u32 t, int locked) {
+    u32 number = INTERN(seen, index_of(o), t), last = sight_at(number)->last;
+    if (sight_at(number)->gift) drop_gift(o, number);
+    while (o->gifts && sight_at(o->first_gift)->gift <= last) drop_gift(o, o->first_gift);
+    return add_gift(o, number, t, add_version(o, t, last), locked);
 }
 
 /* t takes all gifts of the present value that it hasn't; what the lock of the head gives only if that
    isn't taken. */
 static void take_gifts(object *o, u32 t, int by_lock, handing hand, u64 caller) {
     u32 last = *seen_by(o, t);
-    for (u64 k = o->gifts.count; k-- > 0 && o->gifts.at[k].version > last;) {
-        const gift *g = &o->gifts.at[k];
-        if (g->giver != t && !(by_lock && g->locked)) hand(o, g->version, t, caller);
+    for (u32 k = o->last_gift; k && sight_at(k)->gift > last; k = sight_at(k)->before) {
+        const sight *g = sight_at(k);
+        if (g->giver != t && !(by_lock && g->locked)) hand(o, g->gift, t, caller);
     }
     *seen_by(o, t) = o->version;
 }
@@ -123,9 +142,7 @@ static void note_gift(const entry *e, const object *o) {
 /* Who gave, and takes what others gave before it does anything else, may give it all on, and nothing besides:
    so those who take after it take one gift. Returns whether it does. */
 static int gives_all_on(object *o, u32 t) {
-    u64 k = 0;
-    while (k < o->gifts.count && o->gifts.at[k].giver != t) k++;
-    if (o->gifts.count <= 2 || k == o->gifts.count || threads[t].gave != index_of(o) + 1) return 0;
+    if (o->gifts <= 2 || threads[t].gave != index_of(o) + 1 || !sight_of(o, t)->gift) return 0;
     give(o, t, 0);
     return 1;
 }
@@ -147,9 +164,8 @@ static void note_versions(object *o, u32 t, u32 from, u32 to) {
 static void note_gifts(object *o, u32 t) {
     sight *s = sight_of(o, t);
     const u32 last = s->noted > s->last ? s->noted : s->last, from = last > o->begun ? last : o->begun;
-    const gift *first = o->gifts.count ? o->gifts.at : 0;
-    if (first && first->version <= o->begun && first->version > last)
-        note_versions(o, t, first->version - 1, first->version);
+    const u32 first = o->gifts ? sight_at(o->first_gift)->gift : 0;
+    if (first <= o->begun && first > last) note_versions(o, t, first - 1, first);
     if (from < o->version) note_versions(o, t, from, o->version);
     s->noted = o->version;
 }
@@ -186,8 +202,7 @@ static int gives(const entry *e) { return releases(e) || threads[e->thread].is_f
 static int is_by_lock(const entry *e) { return e->operation == OP_ATOMIC_UPDATE && acquires(e) && gives(e); }
 
 static void give_own(object *o, u32 t, int locked) {
-    give(o, t, locked);
-    sight *s = sight_of(o, t);
+    sight *s = give(o, t, locked);
     s->gave = o->version;
     s->stores = o->stores;
 }
@@ -196,13 +211,14 @@ static void give_own(object *o, u32 t, int locked) {
    which may be in a gift of another one by now. */
 static void store_value(const entry *e, object *o) {
     u32 t = e->thread;
-    sight *s = sight_of(o, t);
+    u32 number = INTERN(seen, index_of(o), t);
+    sight *s = sight_at(number);
     int goes_on = !gives(e) && s->gave && s->stores == o->stores;
-    o->gifts.count = 0;
+    while (o->gifts) drop_gift(o, o->first_gift);
     o->begun = o->version;
     o->stores++;
     if (goes_on) {
-        *PUSH(o->gifts) = (gift){s->gave, t, 0};
+        add_gift(o, number, t, s->gave, 0);
         s->stores = o->stores;
     }
     if (gives(e)) give_own(o, t, 1);
@@ -348,12 +364,14 @@ void share_object(const entry *e) {
 }
 
 void forget_states(void) {
-    acquires_met = 0;
+    acquires_met = holds.count = free_hold = 0;
     EACH(o, objects.at, objects.numbers.count) {
         o->depth = o->holder = o->version = o->head = o->arrivals = o->writer = o->posters = 0;
-        o->begun = o->gifts.count = o->given.count = o->posts.count = o->readers.count = 0;
+        o->begun = o->gifts = o->first_gift = o->last_gift = 0;
+        o->given.count = o->posts.count = o->readers.count = 0;
     }
     if (seen.at) memset(seen.at, 0, seen.numbers.count * sizeof *seen.at);
+    if (last_holds.at) memset(last_holds.at, 0, last_holds.numbers.count * sizeof *last_holds.at);
 }
 
 /* ---- 4: which of an object's locks: its own (no sign), or a reader's own of a reader-writer lock
@@ -418,23 +436,28 @@ static void write_hold(u32 t, hold *h, const char *operation, u64 caller, u32 st
     hold_event(t, operation, h->lock, caller, stack);
 }
 
+static hold *hold_at(u32 number) { return number ? &holds.at[number - 1] : 0; }
+const hold *first_hold(u32 t) { return hold_at(threads[t].first_hold); }
+const hold *hold_behind(const hold *h) { return hold_at(h->behind); }
+
 void write_holds(u32 t) {
-    thread_state *s = &threads[t];
-    EACH(h, s->held.at, s->unwritten ? s->held.count : 0) {
+    u32 left = threads[t].unwritten;
+    hold *h = left ? hold_at(threads[t].last_hold) : 0;
+    while (h && (left -= !h->acquire)) h = hold_at(h->before);
+    for (; h; h = hold_at(h->behind)) {
         if (h->acquire) continue;
         write_hold(t, h, "acq", h->caller, h->stack);
         h->acquire = ++acquire_count;
     }
-    s->unwritten = 0;
+    threads[t].unwritten = 0;
 }
 
-/* The last one of a lock, or null. */
+/* The last one of a lock, or null. One that only orders ends before its thread takes another. */
 static hold *hold_of(u32 t, u64 key) {
-    thread_state *s = &threads[t];
-    u64 k = s->held.count;
-    while (k && s->held.at[k - 1].key != key) k--;
-    extra_steps += (s->held.count - k) / 16;
-    return k ? &s->held.at[k - 1] : 0;
+    hold *h = hold_at(threads[t].last_hold);
+    if (!h || h->key == key) return h;
+    u32 number = map_find(&last_holds.numbers, key, t);
+    return number ? hold_at(last_holds.at[number - 1]) : 0;
 }
 
 static map sets;                       /* of locks that a thread held */
@@ -442,25 +465,39 @@ static map sets;                       /* of locks that a thread held */
 int are_sets_apart(void) { return sets.count <= SETS_APART; }
 
 /* A thread has a lock more, or less. */
-static void change_set(thread_state *s, u64 key, int sign) {
-    if (key & ONLY_ORDERS) return;
-    s->locks += sign * mix(key + 1, 0);
+static void change_set(thread_state *s, const hold *h, int sign) {
+    if (h->key & ONLY_ORDERS) return;
+    if (!h->around) s->lock_count += sign;
+    s->locks += sign * mix(h->key + 1, 0);
     if (s->locks) map_number(&sets, s->locks, 0);
 }
 
 static void add_hold(u32 t, hold added) {
     thread_state *s = &threads[t];
-    added.is_again = hold_of(t, added.key) != 0;
-    *PUSH(s->held) = added;
+    u32 number = free_hold ? free_hold : holds.count + 1;
+    if (free_hold) free_hold = hold_at(number)->behind;
+    else PUSH(holds);
+    if (!(added.key & ONLY_ORDERS)) {
+        added.last = INTERN(last_holds, added.key, t);
+        added.around = last_holds.at[added.last - 1];
+        last_holds.at[added.last - 1] = number;
+    }
+    added.before = s->last_hold;
+    *(added.before ? &hold_at(added.before)->behind : &s->first_hold) = s->last_hold = number;
+    *hold_at(number) = added;
     s->unwritten += !added.acquire;
-    change_set(s, added.key, 1);
+    change_set(s, &added, 1);
 }
 
 static void end_hold(u32 t, hold *h) {
     thread_state *s = &threads[t];
     s->unwritten -= !h->acquire;
-    change_set(s, h->key, -1);
-    memmove(h, h + 1, (&s->held.at[s->held.count--] - (h + 1)) * sizeof *h);
+    change_set(s, h, -1);
+    *(h->before ? &hold_at(h->before)->behind : &s->first_hold) = h->behind;
+    *(h->behind ? &hold_at(h->behind)->before : &s->last_hold) = h->before;
+    if (h->last) last_holds.at[h->last - 1] = h->around;
+    h->behind = free_hold;
+    free_hold = h - holds.at + 1;
 }
 
 static void take_hold(object *o, u32 t, which w, u64 caller) {
@@ -480,7 +517,7 @@ void each_held(held_lock give, const char *operation) {
     static VECTOR(held) all;
     all.count = 0;
     for (u32 t = 0; t < thread_bound(); t = next_thread(t))
-        EACH(h, threads[t].held.at, threads[t].held.count)
+        for (const hold *h = first_hold(t); h; h = hold_behind(h))
             if (h->acquire) *PUSH(all) = (held){h->acquire, h, t};
     if (all.count) qsort(all.at, all.count, sizeof *all.at, by_number);
     EACH(it, all.at, all.count) give(operation, it->thread, it->hold);

@@ -208,12 +208,10 @@ static void add_sum(u32 number, enum sum_kind kind, u64 of) {
 
 /* The stack of an access, and the locks of the program that its thread holds, each once. */
 static void add_locks(u32 number, u32 t, u32 stack) {
-    thread_state *s = &threads[t];
-    u64 count = 0;
-    EACH(h, s->held.at, s->held.count) count += !h->is_again && !(h->key & ONLY_ORDERS);
+    u32 count = threads[t].lock_count;
     add_sum(number, !count ? BARE : count > MOST_COUNTED ? MANY : HELD, stack);
-    EACH(h, s->held.at, count > MOST_COUNTED ? 0 : s->held.count)
-        if (!h->is_again && !(h->key & ONLY_ORDERS))
+    for (const hold *h = first_hold(t); h && count <= MOST_COUNTED; h = hold_behind(h))
+        if (!h->around && !(h->key & ONLY_ORDERS))
             add_sum(number, is_for_reading(h->key) ? READING : UNDER, h->key);
 }
 

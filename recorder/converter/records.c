@@ -84,7 +84,7 @@ void forget_thread_states(void) {
         thread_state *s = &threads[t];
         thread_calls *c = &s->calls;
         c->calls.count = c->known = c->owned = c->told = c->now = c->in = c->length = c->depth = c->last = 0;
-        s->held.count = s->unwritten = s->locks = 0;
+        s->first_hold = s->last_hold = s->unwritten = s->lock_count = s->locks = 0;
         s->has_begun = s->is_met = 0;
         s->epoch++;
         s->forked_by = s->notes.count = s->is_fenced = s->gave = s->pending.count = 0;

@@ -36,8 +36,13 @@ typedef struct {
 
 /* A lock that it holds. key: of one that the program has its object, and whether it is a reader's. Once its
    acquire is in the trace lock is its number there, and acquire that of the acquire. orders: does that, or
-   its release, order threads? */
-typedef struct { u64 key, caller, acquire; u32 stack, lock; uint8_t is_again, orders; } hold;
+   its release, order threads? The others are numbers: of the hold before and behind it in its thread's list,
+   and of that of the same lock that is around it; `last` is where that of the last one of the lock is. */
+typedef struct {
+    u64 key, caller, acquire;
+    u32 stack, lock, before, behind, around, last;
+    uint8_t orders;
+} hold;
 #define ONLY_ORDERS (1ull << 63)       /* in the key of a lock of the trace's own */
 
 typedef struct { u32 object, from, to; } note;   /* versions behind the first one, up to the other */
@@ -54,9 +59,10 @@ typedef struct {
     u32 created_at;                    /* a node of the file of stacks */
     thread_calls calls;                /* stacks.c */
     /* objects.c */
-    VECTOR(hold) held;                 /* in the order in which they were taken */
-    /* so many acquires aren't in the trace; a sum of the program's locks that it holds */
-    u64 unwritten, locks;
+    u32 first_hold, last_hold;         /* of a list, in the order in which they were taken */
+    u32 unwritten;                     /* so many acquires aren't in the trace */
+    u32 lock_count;                    /* so many locks of the program it holds, */
+    u64 locks;                         /* and a sum of these */
     VECTOR(note) notes;                /* what it will take at its next fence */
     u64 taken_by;                      /* the last taking of noted versions that took one of its own */
     int is_fenced;                     /* by a release fence */

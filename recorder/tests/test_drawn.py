@@ -405,7 +405,8 @@ FAULTS = {  # to plant in the converter: the file, what stands there, and what i
     "who writes atomically is no writer": ("accesses.c", "    add_thread(&p->writers", "    if (u->writes) "
                                            "add_thread(&p->writers"),
     "fences": ("objects.c", "if (releases(e)) threads[e->thread].is_fenced = 1;", ""),
-    "what others gave is dropped": ("objects.c", "if (g->giver != t && g->version > last)", "if (0)"),
+    "what others gave is dropped": ("objects.c", "while (o->gifts && sight_at(o->first_gift)->gift <= last)",
+                                    "while (o->gifts)"),
     "a wait takes one post": ("objects.c", "!is_last_post(o, p)) continue;",
                               "k < o->posts.count) continue;"),
     "a poster had taken all": ("objects.c", "(p->taken > first) first = p->taken;", "(1) break;"),

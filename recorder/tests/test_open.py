@@ -148,6 +148,13 @@ def planted(folder, *changes):
     return folder / "shb-std"
 
 
+def instructions(record):
+    """How many the converter takes for a record."""
+    ran = recorder.must(recorder.call("valgrind", "--tool=callgrind", "--callgrind-out-file=/dev/null",
+                                      recorder.BUILT / "shb-std", "--list", record))
+    return int(re.search(rb"Collected : (\d+)", ran.stderr)[1])
+
+
 class Open(recorder.Case):
     def test_the_page_has_the_places_of_the_run(self):
         """And all accesses of their variables, as the run's trace has them."""
@@ -193,33 +200,56 @@ class Limits(recorder.Case):
         posts = entry(0, "POST", 0x5000, 0x299) * 20_000
         record.write_bytes(HEADER + forks + posts + b"".join(entry(t, "WAIT", 0x5000, 0x300)
                                                              for t in range(1, 801)))
-        ran = recorder.must(recorder.call("valgrind", "--tool=callgrind", "--callgrind-out-file=/dev/null",
-                                          recorder.BUILT / "shb-std", "--list", record))
-        self.assertLess(int(re.search(rb"Collected : (\d+)", ran.stderr)[1]), 100_000_000)
+        self.assertLess(instructions(record), 100_000_000)
         updates = b"".join(entry(t, "ATOMIC_UPDATE", 0x5000, 0x300, 4 | 3 << 5) for t in range(1, 401))
         loads = b"".join(entry(t, "ATOMIC_LOAD", 0x5000, 0x300, 4) for t in range(401, 801))
         for relaxed in (updates, updates + loads):
             record.write_bytes(HEADER + forks + entry(0, "FENCE", 0, 0x299, 2) + relaxed * 200)
             self.assertLess(recorder.most_memory(recorder.BUILT / "shb-std", "--list", record), 60 << 20)
 
+    def test_twice_as_many_take_twice_the_work(self):
+        """Threads that release without an acquire, others that read that relaxed, and locks that are held at
+        once and released in the order of their acquires, with an access behind each acquire."""
+        def forks(count):
+            return b"".join(entry(0, "FORK", t, 0x200) for t in range(1, count + 1))
+
+        def released(count):
+            return b"".join(entry(t + 1, "ATOMIC_UPDATE", 0x5000, 0x300, 4 | 3 << 5) for t in range(count))
+
+        def read(count):
+            return b"".join(entry(count + t + 1, "ATOMIC_LOAD", 0x5000, 0x301, 4) for t in range(count))
+
+        def locks(count):
+            return b"".join([entry(thread, kind, 0x6000 + 16 * k, 0x300)
+                             + entry(thread, "WRITE", 0x5000, 0x301, 4)
+                             for thread in (1, 2) for kind in ("LOCK", "UNLOCK") for k in range(count)])
+
+        fence, record = entry(0, "FENCE", 0, 0x299, 2), self.folder / "app.rec"
+        for made, few in ((lambda count: forks(count) + fence + released(count) * 100, 64),
+                          (lambda count: forks(2 * count) + fence + (released(count) + read(count)) * 50, 64),
+                          (lambda count: forks(2) + locks(count), 500)):
+            counts = []
+            for count in (few, 2 * few):
+                record.write_bytes(HEADER + made(count))
+                counts.append(instructions(record))
+            self.assertLess(counts[1], 2.2 * counts[0])
+
     def test_a_few_records_that_take_much_work(self):
-        """Each takes what many threads gave, goes through many functions, or looks through many locks."""
+        """Each takes what many threads gave, or goes through many functions."""
         forks = b"".join(entry(0, "FORK", t, 0x200) for t in range(1, 61))
         gives, takes = ([entry(t, "ATOMIC_" + kind, 0x5000, 0x300, 4 | order << 5) for t in threads]
                         for kind, order, threads in (("UPDATE", 3, range(1, 31)), ("LOAD", 2, range(31, 61))))
         frames = b"".join(entry(1, "FRAME", 0x400 + d, 0x500 + d, d) for d in range(2000))
         back = entry(1, "CONTEXT", 0, 0) + entry(1, "CONTEXT", 2000, 0)
-        locks, unlocks = (b"".join(entry(1, kind, 0x6000 + 16 * k, 0x300) for k in range(3000))
-                          for kind in ("LOCK", "UNLOCK"))
         written = entry(1, "WRITE", 0x7000, 0x301, 4)
         limited, record = (planted(self.folder / "limited", "main.c", "(1ull << 28)", "(1ull << 16)"),
                            self.folder / "app.rec")
-        for entries in (b"".join(gives + takes) * 5, frames + (back + written) * 100, locks + unlocks):
+        for entries in (b"".join(gives + takes) * 5, frames + (back + written) * 100):
             record.write_bytes(HEADER + forks + entry(2, "WRITE", 0x7000, 0x302, 4) + entries)
             stacks = self.folder / "stacks"
             recorder.must(recorder.call(recorder.BUILT / "shb-std", "--stacks", stacks, record))
             answer = recorder.part(recorder.call(limited, "--stacks", stacks, record))
-            self.assertIn(b"the trace is cut where long ranges, deep stacks, held", answer.stderr)
+            self.assertIn(b"the trace is cut where long ranges, deep stacks", answer.stderr)
 
     def test_a_race_of_accesses_far_apart_leaves_room_for_others(self):
         """Between the accesses of x are 22,000 events that a page would keep, those of a lock; y

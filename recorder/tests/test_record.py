@@ -132,8 +132,8 @@ class Canned(recorder.Case):
         ranges = b"".join(entry(k % 2, "WRITE", RANGE, 0x300 + k, (1 << 36) - 1) for k in range(2000))
         self.record.write_bytes(HEADER + ENTRIES[:64] + ranges)
         answer = recorder.part(recorder.convert(self.record))
-        self.assertIn(b"the trace is cut where long ranges, deep stacks, held locks or many threads take too "
-                      b"much work", answer.stderr)
+        self.assertIn(b"the trace is cut where long ranges, deep stacks or many threads take too much work",
+                      answer.stderr)
 
 
 def late(before, which, access, context=0, is_repeated=False):
