@@ -118,12 +118,14 @@ class Trials(program.Case):
             self.assertEqual(self.group([*begin, *lines])[1], remedy)
 
     def test_what_cannot_be_atomic(self):
-        """What is accessed by more than eight bytes at once."""
+        """What is accessed by more than eight bytes at once, or is of another type."""
         lines = [*HANDED[:2], "A|w(x)|f.c:2", "B|r(x)|f.c:6"]
         lock = "hold one lock at f.c:2 and f.c:6."
         flag = f"make it atomic if it is a flag or a counter; else {lock}"
         for words, remedy in (({}, flag), ({"f.c:2": "W"}, lock), ({"f.c:6": "R"}, lock)):
             self.assertEqual(self.group(lines, words=words)[1], remedy)
+        for name, remedy in (("x", lock), ("y", flag)):
+            self.assertEqual(self.group(lines, [f"type {name}\tother"])[1], remedy)
 
     def test_no_mutex_where_an_atomic_is_updated(self):
         """As by a spin lock of the program's own, which isn't seen."""

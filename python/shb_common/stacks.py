@@ -18,7 +18,7 @@ BLOCK = rb"(?s).*#([0-9]{1,18})(?:\+[0-9]+)?"  # a variable in a block, as the r
 ORDERS = b"relaxed", b"acquire", b"release", b"both"
 USES = b"load", b"store", b"exchange", b"update", b"fence"
 NUMBERED = b"stack", b"block", b"free"
-NAMED = b"frame", b"system-frame", b"thread", b"source", b"line", b"local", b"use", b"again"
+NAMED = b"frame", b"system-frame", b"thread", b"source", b"line", b"local", b"use", b"again", b"type"
 OTHER = "doesn't have the stacks of this trace"
 MOST_DEEP = 200  # calls of a stack that are looked at
 MOST_FRAMES = 2_000  # of these calls, of which inlined code has several each
@@ -76,6 +76,7 @@ class Stacks:
         self.locals = {}
         self.numbers, self.frames, self.calls, self.threads, self.blocks = (), [None], {}, {}, {}
         self.uses = []  # of atomics, as they happened
+        self.others = set()  # variables of another type than an integer, bool, enum or pointer
         self.again = {}  # by the number of a block that came again, as `Again`
         self.free_starts, self.free_ends = array.array("Q"), array.array("Q")
         if path:
@@ -128,6 +129,8 @@ class Stacks:
             self.again[whole(first)] = Again(whole(second), *more)
         elif more:
             raise ValueError
+        elif kind == b"type":
+            self.others.add(first)
         elif kind == b"thread":
             self.threads[first] = whole(second)
         elif kind == b"source":

@@ -213,10 +213,11 @@ class Locks:
     `a[3].door`, a variable's own one is that of its element, or that which most of its accesses hold; it has
     one name for all variables."""
 
-    def __init__(self, used, private, name, word):
+    def __init__(self, used, private, name, word, others):
         """`private` are locks on stacks that one thread alone uses: none of these is told. `name` gives a
-        variable as the program has it. `word` is what is missing where none is held."""
-        self.own, self.private, self.name, self.word = {}, private, name, word
+        variable as the program has it. `word` is what is missing where none is held; `others` are variables
+        of types that can't be atomic."""
+        self.own, self.private, self.name, self.word, self.others = {}, private, name, word, others
         self.has_global = any(b"#" not in it and not it.startswith(b"stack.") for it in used.variables)
         of_frees = [*itertools.chain(*used.frees.values())]
         self.locks = {variable: set().union(*(use.sums[how] for use in (*its, *of_frees) for how in HOW_HELD))
@@ -250,10 +251,10 @@ def held_in(uses):
     return found
 
 
-def sites_of(group, used, private, name, word):
+def sites_of(group, used, *words):
     """The lines that use a group's variables: racing ones first, then those that write, then by how often;
     and their locks."""
-    racing, locks, sites = group.locations(), Locks(used, private, name, word), {}
+    racing, locks, sites = group.locations(), Locks(used, *words), {}
     for use in itertools.chain(*used.variables.values(), *used.frees.values()):
         if use.location not in sites:
             sites[use.location] = Site(use.location)
@@ -282,7 +283,7 @@ def fact_of(sites, locks, whole, published=()):
     found = publication(published)
     if not found:
         return in_this(whole, freed_under_lock(sites, racing, locks) or freed(racing) or not_atomic(racing)
-                       or of_locks or no_lock(sites, racing, locks.word))
+                       or of_locks or no_lock(sites, racing, locks))
     if not of_locks or of_locks.form != "without":
         return found
     also = {"form": of_locks.form, **of_locks.said}  # either of the two would fix it
@@ -586,18 +587,19 @@ def apart(racing, locks):
                 [] if private else worded("hold one lock at {}.", racing))
 
 
-def no_lock(sites, racing, word):
+def no_lock(sites, racing, locks):
     """No lock is held at any access."""
     writing = [site for site in racing if site.writes()]
     readers = [site for site in racing if not site.writes()]
     writers, every = (set().union(*(site.writers for site in its)) for its in (racing, sites))
     count = f"{len(every):,} threads" if len(every) > 1 else "one thread"
-    sentence = worded("no {} is held at any access; {} {}, at {}.", word, count, does("write", every),
+    sentence = worded("no {} is held at any access; {} {}, at {}.", locks.word, count, does("write", every),
                       [*writing, *(site for site in sites if site.writes() and not site.partners)])
     names = set().union(*(site.variables for site in racing))
     kinds = {alike(name) for name in names}  # a member of several objects is one, elements of an array aren't
     is_one = (len(kinds) == 1 and (len(names) == 1 or not min(kinds).endswith((b"]", b"*")))
-              and not re.search(OF_LIBRARY, min(kinds)) and all(site.widths == {False} for site in racing))
+              and not re.search(OF_LIBRARY, min(kinds)) and names.isdisjoint(locks.others)
+              and all(site.widths == {False} for site in racing))
     tests_it = any(len(site.writers.intersection(reader.threads)) > 1 and not site.reads()
                    and by_numbers(reader.location or b"") < by_numbers(site.location or b"")
                    for site in writing for reader in readers)
@@ -605,7 +607,7 @@ def no_lock(sites, racing, word):
     if readers:
         tag += worded(", {} {}", readers, does("read", readers))
     return Fact("no-lock", {"writes": names_of(writing), "writers": sorted(map(text, writers))},
-                [*tag, f" without a {word}"], [sentence],
+                [*tag, f" without a {locks.word}"], [sentence],
                 worded("{}hold one lock at {}.", (STEP if tests_it else FLAG) * is_one, racing))
 
 

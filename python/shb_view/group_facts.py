@@ -45,7 +45,8 @@ class Facts:
 
     def of_all(self, group, uses):
         """What holds of a group's uses, whichever variable they are of."""
-        sites, locks = sites_of(group, uses, self.private, self.kinds.name, self.word)
+        sites, locks = sites_of(group, uses, self.private, self.kinds.name, self.word,
+                                self.kinds.stacks.others)
         may_hand = self.pairs and not self.has_far(group)
         races = self.kinds.gathered.races_at(group.names) if may_hand else {}
         by = published(races, self.pairs, lambda event: self.kinds.stacks.free_of(event) is not None)

@@ -16,16 +16,17 @@ enum request_kind {
     ASK_SOURCES,                       /* a row for each source file, at most MOST_SOURCES: its path */
     ASK_OWN_LINES,                     /* a row where the module's file itself has lines */
     ASK_UNREAD,                        /* a row where names may be missing: why */
-    /* address of a variable, then offsets, each with a length: of each a row: what is there, as ".head" */
+    /* address of a variable, then offsets, each with a length: of each a row: 0, and 1 if the type there is
+       known and no integer, bool, enum or pointer; what is there, as ".head" */
     ASK_MEMBER,
     /* pc, bytes below the end of its return address, and above its stack pointer, length: the local, and the
        function that it is inlined from, or "" */
     ASK_LOCAL,
     /* pc of the allocation's call, size, offset, length: a row where the type is certain: its name's length,
-       or 0; "Account.balance" */
+       or 0, and above 32 bits of this 1 if the type there is another one, as above; "Account.balance" */
     ASK_BLOCK,
     /* pc of an access, the block's size, the access's offset and length, whether it writes; an offset and
-       length: a row if the access tells an object: where it begins << 32 | its size; as above */
+       length: a row if the access tells an object: as above, and where it begins << 32 | its size */
     ASK_USE
 };
 enum { MOST_NUMBERS = 4096, MOST_TEXT = 16384, MOST_INLINED = 64, MOST_SOURCES = 1 << 20, SYMBOL_PAGE = 4096,

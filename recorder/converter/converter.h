@@ -124,6 +124,8 @@ int is_of_rust(const char *name);      /* of a function of its library, or mangl
    program; else 0. */
 int own_function_name(u64 address, char *buffer, size_t size);
 void symbol_name(u64 address, char *buffer, size_t size);
+/* By the debug information: no integer, bool, enum or pointer. */
+int is_of_other_type(u64 address);
 /* without members of the C++ library's classes: of "box.mail._M_finish" that of "box.mail" */
 int own_length(const char *name);
 void write_own_name(FILE *to, const char *name);         /* of a local: "box.mail of main" */
@@ -133,13 +135,15 @@ int local_name(u64 function, u64 pc, u64 below, u64 above, u64 length, char *buf
 
 /* The same of what lies so far inside of a block of so many bytes, which the C++ library allocated by a call
    in the program's own code: "Account.balance". Returns the length of the type's name; 0 if the type isn't
-   certain. */
-size_t name_in_block(u64 caller, u64 block_size, u64 offset, u64 length, char name[NAME_BYTES]);
+   certain. is_other: as is_of_other_type tells. */
+size_t name_in_block(u64 caller, u64 block_size, u64 offset, u64 length, char name[NAME_BYTES],
+                     uint8_t *is_other);
 
 /* The same by an access: the block's size, the access's offset and length, or 0 if that isn't known, whether
    it writes, and what is asked for: an offset and a length. Returns also the begin and the size of the object
    that the access tells; they stay if it tells none. */
-size_t name_by_use(u64 caller, const u64 use[6], char name[NAME_BYTES], u64 *begin, u64 *size);
+size_t name_by_use(u64 caller, const u64 use[6], char name[NAME_BYTES], u64 *begin, u64 *size,
+                   uint8_t *is_other);
 
 int is_variable(const char *name, size_t length);            /* is a static variable named so? */
 

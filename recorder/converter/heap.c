@@ -6,12 +6,19 @@
 
 enum { MOST_OWN = 4, MOST_OBJECTS = 32 };
 /* what it tells, or 0 */
-typedef struct { use_of_block use; u32 before, object, type_length; char *name; } access;
+typedef struct { use_of_block use; u32 before, object, type_length; char *name; uint8_t is_other; } access;
 /* An object of a block that accesses tell: its type, one of them, and how many places in the code tell it. */
-typedef struct { u64 begin, size; u32 type, access, callers, before; } object;
+typedef struct { u64 begin, size; u32 type, access, callers, before; uint8_t is_other; } object;
 typedef struct { u32 last, count; } chain;                   /* the last one's number from 1, or 0 */
 /* A variable in a block, with its name in there: the first so many bytes are the type's. */
-typedef struct { u64 at, length; u32 block; chain own; size_t type_length; char *name; } in_block;
+typedef struct {
+    u64 at, length;
+    u32 block;
+    chain own;
+    size_t type_length;
+    char *name;
+    uint8_t is_other;                  /* as is_of_other_type tells */
+} in_block;
 static INTERNED(in_block) in_blocks;   /* by their places */
 static VECTOR(access) accesses;
 static VECTOR(object) objects;
@@ -59,7 +66,7 @@ static size_t ask_access(u32 number, const in_block *i, char *name, object *o) {
     const block *b = block_of(i->block);
     const use_of_block *u = &accesses.at[number - 1].use;
     u64 asked[] = {b->size, u->at - b->at, u->length, u->writes, i->at - b->at, i->length};
-    return name_by_use(u->caller, asked, name, &o->begin, &o->size);
+    return name_by_use(u->caller, asked, name, &o->begin, &o->size, &o->is_other);
 }
 
 /* What the variable's own accesses tell of it, and of its block. */
@@ -72,6 +79,7 @@ static void ask_own(const in_block *i) {
         a->type_length = ask_access(k, i, name, &o);
         if (!a->type_length) continue;
         a->name = copied(name);
+        a->is_other = o.is_other;
         name[a->type_length] = 0;
         o.type = map_text(&types, name);
         a->object = object_number(i->block, o);
@@ -126,20 +134,23 @@ static int find_larger(const in_block *i, access *best, char *name) {
         if (best->object && !are_together(&a, best)) return 0;
         if (!is_larger(&a, best) || (!is_told && o.size != b->size)) continue;
         *best = a;
+        best->is_other = o.is_other;
         best->name = strcpy(name, other);
     }
     return 1;
 }
 
 /* By the largest object that is certain, if what all of the variable's own accesses tell fits. */
-static size_t name_by_uses(const in_block *i, char *name) {
+static size_t name_by_uses(in_block *i, char *name) {
     access best = {.object = 0};
     for (u32 k = i->own.last; k; k = accesses.at[k - 1].before)
         if (accesses.at[k - 1].object && is_larger(&accesses.at[k - 1], &best)) best = accesses.at[k - 1];
     for (u32 k = best.object ? i->own.last : 0; k; k = accesses.at[k - 1].before)
         if (accesses.at[k - 1].object && !are_together(&accesses.at[k - 1], &best)) return 0;
     if (best.object) best.name = strcpy(name, best.name);
-    return find_larger(i, &best, name) ? best.type_length : 0;
+    const int is_found = find_larger(i, &best, name);
+    i->is_other = is_found && best.is_other;
+    return is_found ? best.type_length : 0;
 }
 
 static int by_type(const void *a, const void *b) {
@@ -157,7 +168,8 @@ static void find_names(void) {
     const u64 count = in_blocks.numbers.count;
     EACH(i, in_blocks.at, count) {
         const block *b = block_of(i->block);
-        i->type_length = name_in_block(allocated_by(i->block), b->size, i->at - b->at, i->length, name);
+        i->type_length = name_in_block(allocated_by(i->block), b->size, i->at - b->at, i->length, name,
+                                       &i->is_other);
         if (i->type_length) i->name = copied(name);
         else ask_own(i);
     }
@@ -181,6 +193,7 @@ static void write_names_of_type(FILE *to, const in_block *first, const in_block 
         if (is_double) continue;
         const block *b = block_of(i->block);
         part variable = variable_name(i->at, b);
+        if (i->is_other) fprintf(to, "type %.*s\tother\n", (int)variable.length, variable.at);
         fprintf(to, "local 0\t%.*s\t%.*s", (int)variable.length, variable.at, own_length(i->name), i->name);
         if (with_block) {
             part origin = variable_name(b->at, b);

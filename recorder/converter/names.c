@@ -8,13 +8,14 @@
 enum { MAX_MODULES = 512 };
 typedef struct { u64 at, size; char *name; int is_twice; } symbol;
 typedef struct { VECTOR(symbol) symbols; int is_asked; } page_symbols;
+typedef struct { char *text; int is_other; } member;         /* as is_of_other_type tells */
 typedef struct {
     u64 low, high, base;
     char *path;
     int in_system, is_recorder;        /* by its path */
     struct reader *reader;             /* null until it is asked */
     INTERNED(page_symbols) pages;      /* of its file, those of which symbols were asked for */
-    INTERNED(char *) members;          /* the text of an address and a length in a variable */
+    INTERNED(member) members;          /* of an address and a length in a variable */
     /* of its lines; they are asked for when they are shown; what isn't read */
     int asked, is_late, is_said;
 } module;
@@ -201,9 +202,9 @@ static u64 length_at(const symbol *s, u64 address) {
     return next_cut(address, end - address < MOST_LENGTH ? end : address + MOST_LENGTH) - address;
 }
 
-static void keep_member(module *m, u64 address, u64 length, const char *text) {
-    char **kept = ENTRY(m->members, address, length);
-    if (!*kept) *kept = cleaned(copied(text));
+static void keep_member(module *m, u64 address, u64 length, const answer *a) {
+    member *kept = ENTRY(m->members, address, length);
+    if (!kept->text) *kept = (member){cleaned(copied(a->first)), a->two == 1};
 }
 
 /* Asks for what is at an address of a variable, and for what is behind it: an array may have
@@ -221,17 +222,17 @@ static void ask_members(module *m, const symbol *s, u64 address) {
     answer a;
     ask(m->reader, ASK_MEMBER, numbers, count);
     for (u64 k = 1; next_answer(m->reader, &a); k += 2) {
-        if (k < count) keep_member(m, s->at + numbers[k], numbers[k + 1], a.first);
+        if (k < count) keep_member(m, s->at + numbers[k], numbers[k + 1], &a);
         else refuse_answer(m->reader);
     }
 }
 
-/* What is at an address of a variable, as ".head"; null where the reader doesn't answer. */
-static const char *member_at(module *m, const symbol *s, u64 address) {
+/* What is at an address of a variable; null where the reader doesn't answer. */
+static const member *member_at(module *m, const symbol *s, u64 address) {
     u64 length = length_at(s, address);
     if (!map_find(&m->members.numbers, address, length)) ask_members(m, s, address);
     u32 number = map_find(&m->members.numbers, address, length);
-    return number ? m->members.at[number - 1] : 0;
+    return number ? &m->members.at[number - 1] : 0;
 }
 
 /* "x", "x.head", "x[3]", "x+8"; of a name that isn't the only one "x~ADDRESS"; outside the
@@ -248,9 +249,16 @@ void symbol_name(u64 address, char *buffer, size_t size) {
     int n = snprintf(buffer, size, "%.200s%s%.1000s", library, colon, s->name);
     if (s->is_twice || cut_off) n += snprintf(buffer + n, size - n, "~%lx", s->at - m->base);
     say_unread(m);
-    const char *member = member_at(m, s, address);
-    if (member) strncat(buffer + n, member, size - n - 1);
+    const member *found = member_at(m, s, address);
+    if (found) strncat(buffer + n, found->text, size - n - 1);
     else if (address > s->at) snprintf(buffer + n, size - n, "+%lu", address - s->at);
+}
+
+int is_of_other_type(u64 address) {
+    module *m = module_at(address);
+    symbol *s = m ? symbol_at(m, address) : 0;
+    const member *found = s ? member_at(m, s, address) : 0;
+    return found && found->is_other;
 }
 
 int own_length(const char *name) {
@@ -276,14 +284,17 @@ int is_variable(const char *name, size_t length) {
 }
 
 /* The name that an answer has: returns the length of its type's. */
-static size_t take_name(const answer *part, char name[NAME_BYTES]) {
-    if (part->one > strlen(part->first) || strlen(part->first) >= NAME_BYTES) return 0;
+static size_t take_name(const answer *part, char name[NAME_BYTES], uint8_t *is_other) {
+    const u32 length = part->one;
+    if (length > strlen(part->first) || strlen(part->first) >= NAME_BYTES) return 0;
     cleaned(strcpy(name, part->first));
-    return part->one;
+    *is_other = part->one >> 32 == 1;
+    return length;
 }
 
 /* Where a call's type isn't known it isn't asked for again: its blocks may be many. */
-size_t name_in_block(u64 caller, u64 block_size, u64 offset, u64 length, char name[NAME_BYTES]) {
+size_t name_in_block(u64 caller, u64 block_size, u64 offset, u64 length, char name[NAME_BYTES],
+                     uint8_t *is_other) {
     static map untyped;
     inlined_frame *f = frames_of(caller);
     module *m = f && !f->in_system ? module_at(caller) : 0;
@@ -295,10 +306,11 @@ size_t name_in_block(u64 caller, u64 block_size, u64 offset, u64 length, char na
         map_number(&untyped, caller, block_size);
         return 0;
     }
-    return take_name(&part, name);
+    return take_name(&part, name, is_other);
 }
 
-size_t name_by_use(u64 caller, const u64 use[6], char name[NAME_BYTES], u64 *begin, u64 *size) {
+size_t name_by_use(u64 caller, const u64 use[6], char name[NAME_BYTES], u64 *begin, u64 *size,
+                   uint8_t *is_other) {
     module *m = module_at(caller);
     u64 asked[7] = {m ? caller - 1 - m->base : 0};
     answer part;
@@ -307,7 +319,7 @@ size_t name_by_use(u64 caller, const u64 use[6], char name[NAME_BYTES], u64 *beg
         return 0;
     *begin = part.two >> 32;
     *size = (u32)part.two;
-    return take_name(&part, name);
+    return take_name(&part, name, is_other);
 }
 
 int local_name(u64 function, u64 pc, u64 below, u64 above, u64 length, char *buffer, size_t size) {

@@ -24,6 +24,8 @@
            EVENT: the variable, which is in a block of the heap, is at all events this member of the block's
            type, as "Account.balance"; with " of FILE:LINE#NUMBER", the block's name, where several blocks of
            the trace have this type, or a static variable has its name; or the program's part of a static's
+       type VARIABLE TAB other
+           the variable is no integer, bool, enum or pointer, by the debug information
        use EVENT TAB NAME TAB THREAD TAB LOCATION TAB KIND ORDER
            a use before this event of an atomic that several threads use, whether or not it is an event: a
            load, store, exchange (that changed the value) or other update with the order relaxed, acquire,
@@ -342,13 +344,14 @@ const char *local_now(u64 at, const block *b) {
     return local_at(&threads[b->thread].calls, at, next_cut(at, at + MOST_LENGTH) - at, &depth);
 }
 
-/* Of what isn't the program's own in a variable. */
+/* Of what isn't the program's own in a variable; and of its type. */
 static void note_own_name(u64 at) {
     static map met;
     if (!map_adds(&met, at, 0)) return;
     part name = variable_name(at, 0);
     int length = own_length(name.at);
     if (name.at[length]) fprintf(lines, "local 0\t%.*s\t%.*s\n", (int)name.length, name.at, length, name.at);
+    if (is_of_other_type(at)) fprintf(lines, "type %.*s\tother\n", (int)name.length, name.at);
 }
 
 void note_name(u64 at, u32 block_number, u64 event, u32 t) {

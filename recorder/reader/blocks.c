@@ -153,7 +153,7 @@ static const allocation *allocated_at(struct debug *d, const place_in_block *at)
 
 static named_part find_part(Dwarf_Die type, u64 offset, u64 length) {
     char name[NAME_BYTES] = "";
-    text to = {name, sizeof name, 0};
+    text to = {name, sizeof name, 0, 0};
     named_part found = {.is_met = 1};
     if (!find_own_type(&type, &offset, length, &to)) return found;
     found.type = copied(name);
@@ -162,6 +162,7 @@ static named_part find_part(Dwarf_Die type, u64 offset, u64 length) {
     add_members(type, offset, length, &to);
     if (to.rest) snprintf(to.at, to.room, "+%lu", to.rest);
     found.rest = copied(rest);
+    found.is_other = to.is_other;
     return found;
 }
 
@@ -185,7 +186,7 @@ static size_t add_bits(const place_in_block *at, char *buffer, size_t size) {
 
 int has_type(struct debug *d, place_in_block at) { return allocated_at(d, &at)->type.addr != 0; }
 
-size_t add_in_block(struct debug *d, place_in_block at, char *buffer, size_t size) {
+size_t add_in_block(struct debug *d, place_in_block at, char *buffer, size_t size, int *is_other) {
     const allocation *call = allocated_at(d, &at);
     Dwarf_Die type = call->type;
     if (call->is_of_bits) return add_bits(&at, buffer, size);
@@ -197,10 +198,12 @@ size_t add_in_block(struct debug *d, place_in_block at, char *buffer, size_t siz
     char index[24] = "";
     if (at.size - all.begin > all.size)
         snprintf(index, sizeof index, "[%lu]", (at.offset - all.begin) / all.size);
-    return add_part(part_of(d, type, offset, at.length), index, buffer, size);
+    named_part part = part_of(d, type, offset, at.length);
+    *is_other = part.is_other;
+    return add_part(part, index, buffer, size);
 }
 
-size_t add_by_use(struct debug *d, const object_in_block *object, u64 offset, u64 length, char *buffer,
+size_t add_by_use(struct debug *d, object_in_block *object, u64 offset, u64 length, char *buffer,
                   size_t size) {
     char index[24] = "";
     u64 begin = object->begin;
@@ -209,5 +212,7 @@ size_t add_by_use(struct debug *d, const object_in_block *object, u64 offset, u6
     if (object->is_element && begin % object->size == 0)
         snprintf(index, sizeof index, "[%lu]", begin / object->size);
     else if (begin) snprintf(index, sizeof index, "+%lu", begin);
-    return add_part(part_of(d, object->type, offset - begin, length), index, buffer, size);
+    named_part part = part_of(d, object->type, offset - begin, length);
+    object->is_other = part.is_other;
+    return add_part(part, index, buffer, size);
 }

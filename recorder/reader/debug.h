@@ -17,8 +17,8 @@ typedef struct { u64 low, high; Dwarf_Die at; } code;        /* of a function */
    asked for. */
 typedef struct { Dwarf_Die linked, whole; VECTOR(code) functions; int is_indexed; } unit;
 typedef struct { u64 low, high, unit; } span;
-/* "Account", ".balance"; null where there is no such type */
-typedef struct { char *type, *rest; int is_met; } named_part;
+/* "Account", ".balance"; null where there is no such type. is_other: as of a text */
+typedef struct { char *type, *rest; int is_met, is_other; } named_part;
 
 /* a type without an address isn't known */
 typedef struct { Dwarf_Die type; int is_of_bits, is_met; } allocation;
@@ -113,13 +113,14 @@ int place_of_member(Dwarf_Die *member, u64 *place);
 int place_of_bits(Dwarf_Die *member, u64 *place, u64 *length);
 int is_structure(Dwarf_Die *type);
 
-/* A text that is written, and what is in it behind its last name: so many bytes. */
-typedef struct { char *at; size_t room; u64 rest; } text;
+/* A text that is written, and what is in it behind its last name: so many bytes. is_other: no integer, bool,
+   enum or pointer. */
+typedef struct { char *at; size_t room; u64 rest; int is_other; } text;
 void add_name(text *to, const char *before, const char *name, u64 rest);
 void add_members(Dwarf_Die type, u64 offset, u64 length, text *to);
 /* Adds what lies at an offset of the variable that is at an address, in so many bytes: ".head",
-   "[3]", "+4". */
-void add_member(struct debug *d, u64 address, u64 offset, u64 length, char *buffer, size_t size);
+   "[3]", "+4"; returns whether that is `is_other`. */
+int add_member(struct debug *d, u64 address, u64 offset, u64 length, char *buffer, size_t size);
 /* The same of the local of a function that is at `pc`, that lies so many bytes below the end of its return
    address, and above its stack pointer, with its name before it; returns the name of the function that it is
    inlined from, or "", and null where no local is known. */
@@ -140,13 +141,13 @@ int type_by_text(struct debug *d, u64 pc, u64 size, Dwarf_Die *type);
 typedef struct { u64 pc, size, offset, length; } place_in_block;
 /* Adds the name of a type or variable with those of what it is in: "bank::Account". 0 if it has none. */
 int add_qualified_name(const Dwarf_Die *of, text *to);
-size_t add_in_block(struct debug *d, place_in_block at, char *buffer, size_t size);
+size_t add_in_block(struct debug *d, place_in_block at, char *buffer, size_t size, int *is_other);
 int has_type(struct debug *d, place_in_block at);            /* is that of the whole block certain? */
 
 /* used.c: the object that an access in a block tells, and where it begins; 0 if that isn't certain. */
-typedef struct { Dwarf_Die type; u64 begin, size; int is_element; } object_in_block;
+typedef struct { Dwarf_Die type; u64 begin, size; int is_element, is_other; } object_in_block;
 int object_by_use(struct debug *d, place_in_block use, int writes, object_in_block *found);
 meaning meaning_in_line(struct debug *d, u64 pc, int is_write, const char *line, int column);   /* from 1 */
-/* blocks.c: the same of what that object has so far inside of the block, with the object. */
-size_t add_by_use(struct debug *d, const object_in_block *object, u64 offset, u64 length, char *buffer,
+/* blocks.c: the same of what that object has so far inside of the block, with the object; sets is_other */
+size_t add_by_use(struct debug *d, object_in_block *object, u64 offset, u64 length, char *buffer,
                   size_t size);

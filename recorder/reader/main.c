@@ -91,8 +91,8 @@ static void answer_frames(struct debug *d, const u64 *addresses, u64 count) {
 static void answer_members(struct debug *d, u64 address, const u64 *parts, u64 count) {
     for (u64 k = 0; k + 1 < count; k += 2) {
         char name[NAME_BYTES] = "";
-        add_member(d, address, parts[k], parts[k + 1], name, sizeof name);
-        answer(0, 0, name, "");
+        int is_other = add_member(d, address, parts[k], parts[k + 1], name, sizeof name);
+        answer(0, is_other, name, "");
     }
 }
 
@@ -102,7 +102,8 @@ static void answer_request(struct debug *d, const request *r, const u64 *numbers
     char name[NAME_BYTES] = "";
     const char *text;
     size_t length;
-    object_in_block object;
+    int is_other = 0;
+    object_in_block object = {.is_other = 0};
     const place_in_block block = {numbers[0], numbers[1], numbers[2], numbers[3]};
     switch ((enum request_kind)r->kind) {
     case ASK_SYMBOLS: answer_symbols(d, numbers[0]); break;
@@ -118,13 +119,13 @@ static void answer_request(struct debug *d, const request *r, const u64 *numbers
         if (text) answer(0, 0, name, text);
         break;
     case ASK_BLOCK:
-        length = add_in_block(d, block, name, sizeof name);
-        if (length || has_type(d, block)) answer(length, 0, name, "");
+        length = add_in_block(d, block, name, sizeof name, &is_other);
+        if (length || has_type(d, block)) answer(length | (u64)is_other << 32, 0, name, "");
         break;
     case ASK_USE:
         if (!object_by_use(d, block, numbers[4], &object) || (object.begin | object.size) >> 32) break;
         length = add_by_use(d, &object, numbers[5], numbers[6], name, sizeof name);
-        answer(length, object.begin << 32 | object.size, name, "");
+        answer(length | (u64)object.is_other << 32, object.begin << 32 | object.size, name, "");
     }
 }
 

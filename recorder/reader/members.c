@@ -212,10 +212,19 @@ static const char *first_own_name(Dwarf_Die *of) {
     return name && dwarf_tag(of) == DW_TAG_union_type && is_reserved(name) ? name : 0;
 }
 
+static int is_other(Dwarf_Die *type) {
+    u64 encoding;
+    int tag = dwarf_tag(type);
+    if (tag != DW_TAG_base_type) return tag != DW_TAG_pointer_type && tag != DW_TAG_enumeration_type;
+    return has_number(type, DW_AT_encoding, &encoding)
+        && (encoding == DW_ATE_float || encoding == DW_ATE_complex_float || encoding == DW_ATE_decimal_float);
+}
+
 void add_members(Dwarf_Die type, u64 offset, u64 length, text *to) {
     for (int steps = 0; steps < MOST_STEPS && plain_type(&type); steps++) {
         Dwarf_Die member;
         u64 place;
+        to->is_other = dwarf_tag(&type) != DW_TAG_array_type && is_other(&type);
         if (dwarf_tag(&type) == DW_TAG_array_type) {
             Dwarf_Die element;
             if (!type_of(&type, &element) || !add_indices(&type, &element, &offset, length, to)) return;
@@ -237,11 +246,12 @@ void add_members(Dwarf_Die type, u64 offset, u64 length, text *to) {
     }
 }
 
-void add_member(struct debug *d, u64 address, u64 offset, u64 length, char *buffer, size_t size) {
-    text to = {buffer, size, offset};
+int add_member(struct debug *d, u64 address, u64 offset, u64 length, char *buffer, size_t size) {
+    text to = {buffer, size, offset, 0};
     Dwarf_Die *variable = variable_at(d, address), type;
     if (variable && !d->is_alien && type_of(variable, &type)) add_members(type, offset, length, &to);
     if (to.rest) snprintf(to.at, to.room, "+%lu", to.rest);
+    return to.is_other;
 }
 
 /* ---- locals ---- */
@@ -311,7 +321,7 @@ const char *add_local(struct debug *d, place_of_local at, char *buffer, size_t s
     s.at.pc -= d->bias;
     look_in(&s, &s.function, "", 0);
     if (s.found != 1 || !s.name || !*s.name) return 0;
-    text to = {buffer, size, s.offset};
+    text to = {buffer, size, s.offset, 0};
     add_name(&to, "", s.name, s.offset);
     add_members(s.type, s.offset, at.length, &to);
     if (to.rest) snprintf(to.at, to.room, "+%lu", to.rest);

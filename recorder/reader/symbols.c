@@ -37,7 +37,7 @@ static int is_static_local(const char *linked) {
 
 char *told_name(const Dwarf_Die *of) {
     char name[NAME_BYTES];
-    text to = {name, sizeof name, 0};
+    text to = {name, sizeof name, 0, 0};
     return add_qualified_name(of, &to) ? copied(name) : 0;
 }
 

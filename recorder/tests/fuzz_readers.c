@@ -100,7 +100,7 @@ static int read_module(void) {
             u64 pc = d->spans.at[k].low + d->bias + at;
             for (int n = frames_at(d, pc, frames, MOST); n-- > 0;) free(frames[n].function);
             add_local(d, (place_of_local){pc, at, at, 4}, name, sizeof name);
-            add_in_block(d, (place_in_block){pc, MOST, at, 4}, name, sizeof name);
+            add_in_block(d, (place_in_block){pc, MOST, at, 4}, name, sizeof name, &(int){0});
             object_by_use(d, (place_in_block){pc, MOST, at, 4}, 0, &(object_in_block){.size = 0});
         }
     return 0;

@@ -70,6 +70,13 @@ class Own(recorder.Case):
                 self.assertEqual({place: found.get(place) for place in wanted}, wanted)
 
 
+def linked_by(compiler):
+    """The words by which a compiler links with the recorder."""
+    library = recorder.BUILT / "lib"
+    return ([f"-B{library}/"] if compiler[0] == "g"
+            else ["-fno-sanitize-link-runtime", f"-L{library}", "-ltsan"])
+
+
 class Elements(recorder.Case):
     """Those of an array are asked for many at once."""
 
@@ -101,6 +108,52 @@ while len(head := sys.stdin.buffer.read(16)) == 16:
         self.assertLess(log.read_text().count("app\n"), 2000)
 
 
+TYPES = """#include <pthread.h>
+#include <stdlib.h>
+typedef unsigned long amount;
+enum mode { OFF, ON };
+static struct pair { float low; int high; } whole, parts, *block;
+static int number, row[2];
+static _Bool flag;
+static enum mode mode;
+static char *text;
+static volatile amount count;
+static double sum;
+static void *work(void *unused) {
+    struct pair one = {1, 2};
+    number = row[1] = flag = mode = count = 1;
+    text = "a";
+    sum = 2;
+    whole = one;
+    parts.low = block->low = 3;
+    parts.high = block->high = 4;
+    return unused;
+}
+int main(void) {
+    pthread_t t;
+    block = malloc(sizeof *block);
+    pthread_create(&t, 0, work, 0);
+    work(0);
+    return pthread_join(t, 0);
+}
+"""
+
+
+class Types(recorder.Case):
+    def test_what_is_no_integer_bool_enum_or_pointer(self):
+        source, program, record, stacks = (self.folder / name for name in ("a.c", "a", "a.rec", "a.stacks"))
+        source.write_text(TYPES)
+        for compiler in filter(shutil.which, ("gcc", "clang")):
+            recorder.must(recorder.call(compiler, "-w", "-g", "-O0", "-fsanitize=thread", "-pthread", source,
+                                        *linked_by(compiler), "-o", program))
+            recorder.must(recorder.call(program, env=recorder.settings(record)))
+            trace = recorder.must(recorder.convert(record, "--stacks", stacks)).stdout
+            found = Stacks(stacks, trace.count(b"\n"))
+            named = {found.lasting_locals.get(name, name).partition(b" of ")[0] for name in found.others}
+            with self.subTest(compiler):
+                self.assertEqual(named, {b"sum", b"whole", b"parts.low", b"pair.low"})
+
+
 class Blocks(recorder.Case):
     """What lies in a block is named by the block's type: by what the C++ library allocates, by the line, or
     by the text at an access. What isn't certain has no name."""
@@ -108,11 +161,8 @@ class Blocks(recorder.Case):
     def found(self, source, compiler, option):
         """By line, the names of what the threads access in blocks, without the blocks' numbers."""
         program, record, path = self.folder / "app", self.folder / "app.rec", self.folder / "app.stacks"
-        library = recorder.BUILT / "lib"
-        linked = ([f"-B{library}/"] if compiler[0] == "g"
-                  else ["-fno-sanitize-link-runtime", f"-L{library}", "-ltsan"])
         recorder.must(recorder.call(compiler, "-w", "-g", option, "-fsanitize=thread", "-pthread", source,
-                                    *linked, "-o", program))
+                                    *linked_by(compiler), "-o", program))
         recorder.must(recorder.call(program, env=recorder.settings(record)))
         trace = recorder.must(recorder.convert(record, "-a", "--stacks", path)).stdout
         names, found = Stacks(path, len(trace.splitlines())).lasting_locals, {}
