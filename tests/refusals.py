@@ -55,7 +55,7 @@ ARRAY = re.compile(r"(?<!vec!)(?<!vec! )\[")
 LIST = re.compile(r"\bvec!\s*\[")
 
 # Counts that a trace, a job or a report of it has, as fields or calls.
-COUNTS = "threads locks variables events pieces count".split()
+COUNTS = "threads locks variables events locations pieces count".split()
 # Other sizes that the code needs, by the file, with what bounds them.
 OTHERS = {
     ("shb_lines/src/read.rt", "limits.text"): "the most bytes of a text, at most 2^30 by the condition of "

@@ -113,7 +113,8 @@ impl<'t> Locations<'t> {
         self.known.len()
     }
 
-    /// Different numbers have different locations.
+    /// Different numbers have different locations. A law in the form of a call: it does nothing, and its
+    /// callers may rely on what it states.
     pub fn are_different(&self)
         ensures { IsDistinct bytes_eq self.now }
     {

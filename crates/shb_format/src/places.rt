@@ -206,6 +206,13 @@ pub fn places_of<R: RandomSource>(
 }
 
 impl Places {
+    /// Places with these counts.
+    pub fn new(counts: Vec<PlaceCount>) -> Places
+        ensures { result ≡ counts.items }
+    {
+        Places { counts }
+    }
+
     /// How many places there are.
     pub fn len(&self) -> u64
         ensures { result ≡ length self.now }

@@ -1,14 +1,3 @@
-pub mod Batches
-pub mod Counted
-pub mod Leading
-pub mod PlaceRaces
-pub mod Listed
-pub mod Occurs
-pub mod Parts
+pub mod Found
 pub mod Given
-pub mod History
-pub mod Planned
-pub mod Rivals
-pub mod OwnNumbers
-pub mod RacingCounts
-pub mod Settled
+pub mod Listed

@@ -1,44 +1,17 @@
-//! The races of a trace by one sweep in trace order: of each access the earlier ones that race with it.
+//! The races of a trace, listed: by the number of the variable, then by the later access, then by the earlier one.
 //!
-//! A variable has a list of its *rivals*: the threads that accessed it, each with its newest access and its newest
-//! write (`rivals`). Of each access it is known which access of its thread to its variable came before, and which
-//! write, so from the newest one all can be gone through, back in time. Local times fall on the way, and what is
-//! SHB-below the predecessor of a later access are the first events of a thread. So the accesses that race with it are
-//! those from the newest one back to the first that is below (`search`): a rival without a race costs a comparison, and
-//! each race a step.
-//!
-//! [`kept_races`] keeps what the sweep finds, and sorts it into the order of the race list. Where there are too many,
-//! [`counted_races`] counts those of each place and variable in one sweep, many of them by the numbers of their locations,
-//! without a step for each (`racing_counts`). The order of the places comes from the nearest races of the trace, which the
-//! caller gives (`leading`).
-//!
-//! A [`RaceList`] gives the races of a report a part at a time: kept ones all at once; else those of as many variables as
-//! have few enough races (`BatchPlan`), or some of those of one variable that has too many (`RaceParts`).
+//! A [`RaceList`] gives the races of a report a part at a time, in this order. Kept ones it gives all at once. Else the races
+//! are counted first (`shb_counts`), so it is known of each access how many races it has. The accesses that have some stand
+//! in the order of the list (`by_event`), and a part has the races of some that follow each other: as many as have few
+//! enough races together, or one. A sweep keeps what each of these knows, and workers find the races of pieces of them
+//! (`find_job`): the windows of an access in the entries of its variable, sorted by event (`found`).
 #![tactic(auto)]
 
-mod batches;
-mod counted;
-mod counter;
-mod counting;
-mod history;
-mod kept;
-mod leading;
+mod by_event;
+mod find_job;
+mod found;
 mod list;
 mod listed;
-mod numbering;
-mod own_numbers;
-mod parts;
-mod place_races;
-mod plan;
-mod racing;
-mod racing_counts;
-mod rivals;
-mod search;
-mod settled;
-mod tables;
 
-pub use counted::counted_races;
-pub use kept::kept_races;
 pub use list::RaceList;
 pub use listed::{ListedRace, pairs_of};
-pub use settled::Settled;

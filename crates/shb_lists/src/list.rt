@@ -1,26 +1,27 @@
-//! The races of a report, a part at a time: all at once if they are kept, else batch by batch.
+//! The races of a report, a part at a time: all at once if they are kept, else those of some accesses after the others.
 
-ghost use Rattle.std.specs.Prelude.{◌≡◌, ◌+◌, ◌<◌, ◌≤◌, ◌++◌, ℕ, All, List, IfOk, IfSome, length, map};
-ghost use Rattle.shb_lines.specs.events.Race.{Race, ends};
+ghost use Rattle.std.specs.Prelude.{◌≡◌, ◌⊎◌, ◌+◌, ◌<◌, ◌≤◌, ◌↔◌, ℕ, All, List, IfOk, IfSome, IsTrue, length, map, slice_range, sum_by};
+ghost use Rattle.shb_lines.specs.declared.event.Event.{Event};
+ghost use Rattle.shb_lines.specs.events.Race.{IsRaceList, Race};
+ghost use Rattle.shb_lists.specs.Found.{event_of, races_of};
+ghost use Rattle.shb_lists.specs.Given.{AreKnown, HasGiven, HasTurn, IsNext, ListsRaces, parts_left, racing};
 ghost use Rattle.shb_lists.specs.Listed.{pair_in};
-ghost use Rattle.shb_lists.specs.Batches.{races_below};
-ghost use Rattle.shb_lists.specs.Given.{HasGiven, IsNext, ListsRaces, parts_left};
-ghost use Rattle.shb_lists.specs.PlaceRaces.{HaveNearest};
-ghost use Rattle.shb_lists.specs.Parts.{IsPart, IsPartly, races_until};
-ghost use Rattle.shb_lists.specs.declared.list.Rest.TheVariants.{From, Within};
-ghost use Rattle.shb_lists.specs.Settled.{events_of, trace_of, variables_of};
+ghost use Rattle.shb_counts.specs.Settled.{events_of, trace_of};
 
-use crate::counted::{RaceCount, counted_races};
+use crate::by_event::{ListedAccess, accesses_by_event};
+use crate::find_job::{Search, find_part};
 use crate::listed::{ListedRace, pairs_of};
-use crate::parts::RaceParts;
-use crate::plan::{Batch, BatchPlan};
-use crate::settled::Settled;
+use shb_counts::{Accesses, RaceCount, Settled, counted_races, turn_length};
+use shb_fan::Workers;
 use shb_format::{Places, places_of};
 use shb_io::NoMemory;
-use shb_lines::Pair;
+use shb_links::Linked;
+use shb_stamps::{ListedRows, at_events};
 use std::alloc::Global;
 use std::mem;
 use std::random::RandomSource;
+use std::sync::Wait;
+use std::thread::Threads;
 
 /// The races of a report: how many there are, their places, and the races themselves, which are given a part at a time.
 #[derive(Drop)]
@@ -37,79 +38,125 @@ pub struct RaceList<'a> {
 pub(crate) enum Rest<'a> {
     /// All races.
     Kept(Vec<ListedRace>),
-    /// Those of a variable and of later ones, in batches.
+    /// Those of the listed accesses from an index on.
     From {
-        plan: BatchPlan,
-        variable: u32,
-    },
-    /// Those that a search for the races of one variable has still to find, and those of the variables from `to` on.
-    Within {
-        plan: BatchPlan,
-        parts: RaceParts<'a>,
-        to: u32,
+        known: Known,
+        turn: Option<Turn<'a>>,
+        next: usize,
     },
     /// None.
     Ended,
 }
 
-/// Some races, and those after them.
+/// Accesses of open variables, and those of them whose races are listed.
 #[derive(Drop)]
-struct Part<'a> {
-    races: Vec<ListedRace>,
-    rest: Rest<'a>,
+pub(crate) struct Known {
+    accesses: Accesses,
+    /// In the order of the race list.
+    list: Vec<ListedAccess>,
+    /// So many races are found at once at most, or those of one access.
+    most: u64,
 }
 
-/// The next part of the races of one variable.
-fn part_within<'a>(
-    alloc: Global,
-    settled: &'a Settled<'a>,
-    plan: BatchPlan,
-    mut parts: RaceParts<'a>,
-    to: u32,
-) -> Result<Part<'a>, NoMemory>
-    requires search { IsPartly (events_of settled.now) (variables_of settled.now) parts.variable parts }
-    requires next { to ≡ parts.variable + 1 }
-    requires within { to ≤ variables_of settled.now }
-    ensures part { IfOk result (λ part. IsPart plan.most part.races.items) }
-    ensures given { IfOk result (λ part. HasGiven (events_of settled.now) (variables_of settled.now) (races_below (events_of settled.now) (variables_of settled.now))
-        (races_below (events_of settled.now) parts.entry.variable ++ races_until (events_of settled.now) parts.entry.variable parts.entry.next ++ map pair_in part.races.items) part.rest) }
-    ensures fewer { IfOk result (λ part. parts_left (length (events_of settled.now)) (variables_of settled.now) part.rest < parts_left (length (events_of settled.now)) (variables_of settled.now) (Within plan parts.entry to)) }
-{
-    let races = parts.next_part(alloc, settled, plan.most)?;
-    if parts.next < settled.disciplined.events.len() as u32 {
-        return Ok(Part {
-            races,
-            rest: Rest::Within { plan, parts, to },
-        });
-    }
-    Ok(Part {
-        races,
-        rest: Rest::From { plan, variable: to },
-    })
+/// An order that can be asked about the accesses of the list up to an index, from the next one on.
+#[derive(Drop)]
+pub(crate) struct Turn<'a> {
+    order: ListedRows<'a>,
+    to: usize,
 }
 
-/// The races of the next batch, or the first part of them where one variable has too many.
-fn part_from<'a>(
-    alloc: Global,
-    settled: &'a Settled<'a>,
-    plan: BatchPlan,
-    variable: u32,
-) -> Result<Part<'a>, NoMemory>
-    requires { variable < variables_of settled.now }
-    ensures given { IfOk result (λ part. HasGiven (events_of settled.now) (variables_of settled.now) (races_below (events_of settled.now) (variables_of settled.now)) (races_below (events_of settled.now) variable ++ map pair_in part.races.items) part.rest) }
-    ensures fewer { IfOk result (λ part. parts_left (length (events_of settled.now)) (variables_of settled.now) part.rest < parts_left (length (events_of settled.now)) (variables_of settled.now) (From plan variable)) }
+/// The accesses that have races.
+fn with_some(alloc: Global, list: &[ListedAccess]) -> Result<Vec<ListedAccess>, NoMemory>
+    ensures { IfOk result (λ some. some.items ≡ racing list.now) }
 {
-    let Batch { to, races } = plan.batch(alloc, settled, variable)?;
-    match races {
-        Some(races) => Ok(Part {
-            races,
-            rest: Rest::From { plan, variable: to },
-        }),
-        None => {
-            let parts = RaceParts::new(alloc, settled, variable)?;
-            part_within(alloc, settled, plan, parts, to)
+    let mut some = Vec::new(alloc);
+    for access in list {
+        if access.races > 0 {
+            some.push(*access)?;
         }
     }
+    Ok(some)
+}
+
+/// Whether there is room for so many races more.
+fn has_room(most: u64, races: u64, more: u32) -> bool
+    ensures { IsTrue result ↔ (races + more ≤ most) }
+{
+    let more = u64::from(more);
+    races <= most && more <= most - races
+}
+
+/// Where the accesses end that are taken together from an index up to another: those with at most so many races, or one.
+fn part_end(list: &[ListedAccess], from: usize, end: usize, most: u64) -> usize
+    requires more { from < end }
+    requires within { end ≤ length list.now }
+    ensures more { from < result }
+    ensures within { result ≤ end }
+    ensures few { (result ≡ from + 1) ⊎ (sum_by (λ access. access.races) (slice_range list.now from result) ≤ most) }
+{
+    let mut to = from + 1;
+    let mut races = u64::from(list[from].races);
+    while to < end {
+        if !has_room(most, races, list[to].races) {
+            return to;
+        }
+        races += u64::from(list[to].races);
+        to += 1;
+    }
+    to
+}
+
+/// The events of some accesses.
+fn events_in(alloc: Global, list: &[ListedAccess]) -> Result<Vec<u32>, NoMemory>
+    ensures { IfOk result (λ events. events.items ≡ map event_of list.now) }
+{
+    let mut events = Vec::with_capacity(alloc, list.len())?;
+    for access in list {
+        events.push(access.event)?;
+    }
+    Ok(events)
+}
+
+/// The turn that starts with an access.
+fn turn_at<'a>(
+    alloc: Global,
+    settled: &'a Settled<'a>,
+    list: &[ListedAccess],
+    from: usize,
+) -> Result<Turn<'a>, NoMemory>
+    requires known { (accesses : Accesses) × AreKnown (events_of settled.now) accesses list.now }
+    requires more { from < length list.now }
+    ensures more { IfOk result (λ turn. from < turn.to) }
+    ensures turn { IfOk result (HasTurn (events_of settled.now) list.now from) }
+{
+    let most = turn_length(settled.disciplined.sizes.threads);
+    let to = list.len().min(from.saturating_add(most));
+    let events = events_in(alloc, &list[from..to])?;
+    let linked = Linked::new(settled.disciplined, settled.links);
+    let order = at_events(alloc, linked, events.as_slice())?;
+    Ok(Turn { order, to })
+}
+
+/// The turn of an access: the last one, if it isn't over; else the next one, for which the last one is dropped.
+fn turn_from<'a>(
+    alloc: Global,
+    settled: &'a Settled<'a>,
+    list: &[ListedAccess],
+    next: usize,
+    last: Option<Turn<'a>>,
+) -> Result<Turn<'a>, NoMemory>
+    requires known { (accesses : Accesses) × AreKnown (events_of settled.now) accesses list.now }
+    requires more { next < length list.now }
+    requires last { IfSome last (HasTurn (events_of settled.now) list.now next) }
+    ensures more { IfOk result (λ turn. next < turn.to) }
+    ensures turn { IfOk result (HasTurn (events_of settled.now) list.now next) }
+{
+    if let Some(turn) = last {
+        if next < turn.to {
+            return Ok(turn);
+        }
+    }
+    turn_at(alloc, settled, list, next)
 }
 
 impl<'a> RaceList<'a> {
@@ -125,7 +172,7 @@ impl<'a> RaceList<'a> {
         races: Vec<ListedRace>,
     ) -> Result<RaceList<'a>, NoMemory>
         requires { All (λ race. Race (events_of settled.now) race.0 race.1) (map pair_in races.items) }
-        ensures { IfOk result (ListsRaces (events_of settled.now) (variables_of settled.now) (map pair_in races.items) (trace_of settled.now)) }
+        ensures { IfOk result (ListsRaces (events_of settled.now) (map pair_in races.items) (trace_of settled.now)) }
     {
         let pairs = pairs_of(alloc, &races)?;
         let places = places_of(rt, alloc, settled.disciplined.trace, &pairs)?;
@@ -136,66 +183,82 @@ impl<'a> RaceList<'a> {
         })
     }
 
-    /// The list of all races of a trace, of which not more than `most` are kept at once, and those of one more access.
-    /// `nearest` has of each place and variable the nearest race.
+    /// The list of all races of a trace, of which not more than `most` are found at once, or those of one access. Workers
+    /// count them.
     ///
     /// # Errors
     ///
     /// `NoMemory` where a growth was refused, or where there were no random numbers for a table.
-    pub fn counted<R: RandomSource>(
+    pub fn all<R: Threads + Wait + Sync + RandomSource>(
         rt: &R,
         alloc: Global,
         settled: &Settled<'_>,
-        nearest: &[Pair],
         most: u64,
+        workers: Workers,
     ) -> Result<RaceList<'a>, NoMemory>
-        requires { HaveNearest (trace_of settled.now) (map ends nearest.now) }
-        ensures { IfOk result (ListsRaces (events_of settled.now) (variables_of settled.now) (races_below (events_of settled.now) (variables_of settled.now)) (trace_of settled.now)) }
+        ensures { IfOk result (λ list. (races : List (ℕ × ℕ)) × IsRaceList (events_of settled.now) races × ListsRaces (events_of settled.now) races (trace_of settled.now) list) }
     {
-        let counted = counted_races(rt, alloc, settled, nearest, most)?;
         let RaceCount {
             races,
             places,
-            batches,
-        } = counted;
+            accesses,
+            counts,
+            ..
+        } = counted_races(rt, alloc, settled, workers)?;
+        let by_event = accesses_by_event(alloc, &accesses, counts.as_slice())?;
+        let list = with_some(alloc, by_event.as_slice())?;
         Ok(RaceList {
             count: races,
             places,
             rest: Rest::From {
-                plan: batches,
-                variable: 0,
+                known: Known {
+                    accesses,
+                    list,
+                    most,
+                },
+                turn: None,
+                next: 0,
             },
         })
     }
 
-    /// The next races, in the order of the list; nothing after the last ones.
+    /// The next races, in the order of the list, as workers find them; nothing after the last ones.
     ///
     /// # Errors
     ///
     /// `NoMemory` where a growth was refused: no more races are given then.
-    pub fn next_part(
+    pub fn next_part<R: Threads + Wait + Sync>(
         &mut self,
+        rt: &R,
         alloc: Global,
         settled: &'a Settled<'a>,
+        workers: Workers,
     ) -> Result<Option<Vec<ListedRace>>, NoMemory>
-        requires { (races given : List (ℕ × ℕ)) × HasGiven (events_of settled.now) (variables_of settled.now) races given self.old.rest }
-        ensures next { (races given : List (ℕ × ℕ)) → HasGiven (events_of settled.now) (variables_of settled.now) races given self.old.rest
-            → IfOk result (IsNext (events_of settled.now) (variables_of settled.now) races given self.new.rest) }
-        ensures fewer { IfOk result (λ part. IfSome part (λ races. parts_left (length (events_of settled.now)) (variables_of settled.now) self.new.rest < parts_left (length (events_of settled.now)) (variables_of settled.now) self.old.rest)) }
+        requires { (races given : List (ℕ × ℕ)) × HasGiven (events_of settled.now) races given self.old.rest }
+        ensures next { (races given : List (ℕ × ℕ)) → HasGiven (events_of settled.now) races given self.old.rest
+            → IfOk result (IsNext (events_of settled.now) races given self.new.rest) }
+        ensures fewer { IfOk result (λ part. IfSome part (λ races. parts_left self.new.rest < parts_left self.old.rest)) }
     {
         match mem::replace(&mut self.rest, Rest::Ended) {
             Rest::Kept(races) => Ok(Some(races)),
-            Rest::From { plan, variable } => {
-                if variable >= settled.disciplined.sizes.variables {
+            Rest::From { known, turn, next } => {
+                let list = known.list.as_slice();
+                if next >= list.len() {
                     return Ok(None);
                 }
-                let Part { races, rest } = part_from(alloc, settled, plan, variable)?;
-                self.rest = rest;
-                Ok(Some(races))
-            }
-            Rest::Within { plan, parts, to } => {
-                let Part { races, rest } = part_within(alloc, settled, plan, parts, to)?;
-                self.rest = rest;
+                let turn = turn_from(alloc, settled, list, next, turn)?;
+                let to = part_end(list, next, turn.to, known.most);
+                let search = Search {
+                    order: &turn.order,
+                    accesses: &known.accesses,
+                    threads: settled.disciplined.sizes.threads,
+                };
+                let races = find_part(rt, alloc, &search, &list[next..to], workers)?;
+                self.rest = Rest::From {
+                    known,
+                    turn: Some(turn),
+                    next: to,
+                };
                 Ok(Some(races))
             }
             Rest::Ended => Ok(None),

@@ -4,5 +4,4 @@ pub mod Reports
 pub mod Endings
 pub mod Outcomes
 pub mod Within
-pub mod NearestLists
 mod Words

@@ -16,7 +16,6 @@ pub use Rattle.shb_lines.specs.text.Text.{IsLineText, lines_of}
 pub use Rattle.shb_lines.specs.text.TraceData.{IsReadingOf, IsTraceOf, TraceData}
 pub use Rattle.shb_lists.proofs.GivenLemmas.{pairs_race, race_of_trace, races_of_list}
 pub use Rattle.shb_lists.specs.Listed.{pair_in}
-pub use Rattle.shb_lists.specs.PlaceRaces.{HaveNearest}
 pub use Rattle.shb_lists.specs.declared.list.RaceList.{RaceList}
 pub use Rattle.shb_run.specs.Outcomes.{HasSummed, HasTrace, IsOutcome, IsReported, ListedBy, ListsPlaces, ListsRaces, ListsSchedulable, ReportsTrace, summary_of}
 pub use Rattle.shb_run.specs.declared.settings.Choice.{Choice}

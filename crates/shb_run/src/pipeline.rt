@@ -4,17 +4,17 @@ ghost use Rattle.shb_run.specs.declared.settings.Choice.TheVariants.{All, Neares
 ghost use Rattle.shb_run.specs.Outcomes.{HasSummed, IsOutcome, summary_of};
 ghost use Rattle.shb_format.specs.Report.{counts_of};
 ghost use Rattle.shb_format.specs.Value.{AreShown, IsShown};
-ghost use Rattle.shb_lists.specs.Settled.{trace_of};
+ghost use Rattle.shb_counts.specs.Settled.{trace_of};
 
 use crate::lists::races_asked;
 use crate::settings::{Choice, Settings, Summary};
 use shb_check::{RunError, judge, read_trace};
+use shb_counts::Settled;
 use shb_discipline::Disciplined;
 use shb_fan::{FreeGate, Gate};
 use shb_io::{Sink, Source};
 use shb_lines::Trace;
 use shb_links::links_of;
-use shb_lists::Settled;
 use shb_stamps::open_variables;
 use shb_write::{BlockPlan, WriteError, write_races};
 use std::alloc::Global;
@@ -48,7 +48,7 @@ fn report_settled<R: Threads + Wait + Sync + RandomSource, K: Sink, P: Gate + Sy
     requires countable { K.failure_count sink.old < 2 ^ 64 - 1 }
     ensures { HasSummed choice plan.now.schedules (trace_of settled.now) K.taken K.failure_count sink.old sink.new result }
 {
-    let mut list = races_asked(rt, alloc, settled, choice, plan.schedules)?;
+    let mut list = races_asked(rt, alloc, settled, choice, plan.workers)?;
     let count = list.count;
     write_races(rt, alloc, sink, settled, &mut list, plan)?;
     Ok(summary_of(settled.disciplined.trace, count))

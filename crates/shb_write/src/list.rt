@@ -2,9 +2,9 @@
 ghost use Rattle.std.specs.Prelude.{◌-◌, ◌^◌, ◌<◌, ℕ, List, [], length, map};
 ghost use Rattle.shb_io.specs.Devices.{CountsFailure};
 ghost use Rattle.shb_lines.specs.declared.event.Event.{Event};
+ghost use Rattle.shb_counts.specs.Settled.{events_of, trace_of};
 ghost use Rattle.shb_lists.specs.Given.{HasGiven, ListsRaces};
 ghost use Rattle.shb_lists.specs.Listed.{pair_in};
-ghost use Rattle.shb_lists.specs.Settled.{events_of, trace_of, variables_of};
 ghost use Rattle.shb_write.specs.Blocks.{WritesBlocks, alone, scheduled_in, shown_in};
 ghost use Rattle.shb_write.specs.Listed.{HasListed, MayList};
 ghost use Rattle.shb_write.specs.Written.{write_failed};
@@ -16,10 +16,11 @@ use crate::plan::BlockPlan;
 use crate::scheduled::schedule_races;
 use crate::text_writer::TextWriter;
 use crate::texts::TextJob;
+use shb_counts::Settled;
 use shb_fan::{Gate, StreamError, stream};
 use shb_io::Sink;
 use shb_links::Linked;
-use shb_lists::{ListedRace, RaceList, Settled};
+use shb_lists::{ListedRace, RaceList};
 use shb_stamps::Ordered;
 use shb_witness::order_of_races;
 use std::alloc::Global;
@@ -99,11 +100,11 @@ fn write_parts<'a, R: Threads + Wait + Sync, K: Sink, P: Gate + Sync, W: Gate + 
     list: &mut RaceList<'a>,
     plan: &BlockPlan<'_, '_, P, W>,
 ) -> Result<(), WriteError>
-    requires { (races : List (ℕ × ℕ)) × HasGiven (events_of settled.now) (variables_of settled.now) races [] list.old.rest × MayList K.failure_count (events_of settled.now) writer.old races }
-    ensures { (races : List (ℕ × ℕ)) × HasGiven (events_of settled.now) (variables_of settled.now) races [] list.old.rest
+    requires { (races : List (ℕ × ℕ)) × HasGiven (events_of settled.now) races [] list.old.rest × MayList K.failure_count (events_of settled.now) writer.old races }
+    ensures { (races : List (ℕ × ℕ)) × HasGiven (events_of settled.now) races [] list.old.rest
         × HasListed (shown_in plan.now.schedules (events_of settled.now)) K.taken K.failure_count writer.old races result writer.new }
 {
-    while let Some(races) = list.next_part(alloc, settled)? {
+    while let Some(races) = list.next_part(rt, alloc, settled, plan.workers)? {
         write_kept(rt, alloc, &mut *writer, settled, &races, plan)?;
     }
     Ok(())
@@ -119,8 +120,8 @@ pub(crate) fn write_blocks<'a, R: Threads + Wait + Sync, K: Sink, P: Gate + Sync
     plan: &BlockPlan<'_, '_, P, W>,
 ) -> Result<(), WriteError>
     requires countable { K.failure_count sink.old < 2 ^ 64 - 1 }
-    requires races { (races : List (ℕ × ℕ)) × (length races < 2 ^ 64) × ListsRaces (events_of settled.now) (variables_of settled.now) races (trace_of settled.now) list.old }
-    ensures blocks { (races : List (ℕ × ℕ)) → ListsRaces (events_of settled.now) (variables_of settled.now) races (trace_of settled.now) list.old
+    requires races { (races : List (ℕ × ℕ)) × (length races < 2 ^ 64) × ListsRaces (events_of settled.now) races (trace_of settled.now) list.old }
+    ensures blocks { (races : List (ℕ × ℕ)) → ListsRaces (events_of settled.now) races (trace_of settled.now) list.old
         → WritesBlocks plan.now.schedules (trace_of settled.now) races (K.taken sink.old) (K.taken sink.new) result }
     ensures counted { CountsFailure write_failed (K.failure_count sink.old) (K.failure_count sink.new) result }
 {

@@ -3,18 +3,19 @@ ghost use Rattle.std.specs.Prelude.{◌≡◌, ◌-◌, ◌^◌, ◌<◌, ℕ, A
 ghost use Rattle.shb_io.specs.Devices.{IsCounted, Writes};
 ghost use Rattle.shb_format.specs.Places.{IsPlaceOf, counts_in, places_of_pairs};
 ghost use Rattle.shb_format.specs.Report.{counts_of, front_bytes, pair_of};
+ghost use Rattle.shb_counts.specs.Settled.{events_of, trace_of};
 ghost use Rattle.shb_lists.specs.Given.{ListsRaces};
-ghost use Rattle.shb_lists.specs.Settled.{events_of, trace_of, variables_of};
 ghost use Rattle.shb_write.specs.Written.{HasReported, These};
 
 use crate::errors::WriteError;
 use crate::list::write_blocks;
 use crate::plan::BlockPlan;
+use shb_counts::Settled;
 use shb_fan::Gate;
 use shb_format::{Counts, Places, head, place_lines, tail};
 use shb_io::{Failed, Sink};
 use shb_lines::Trace;
-use shb_lists::{RaceList, Settled};
+use shb_lists::RaceList;
 use std::alloc::Global;
 use std::sync::Wait;
 use std::thread::Threads;
@@ -66,8 +67,8 @@ pub fn write_races<'a, R: Threads + Wait + Sync, K: Sink, P: Gate + Sync, W: Gat
     plan: &BlockPlan<'_, '_, P, W>,
 ) -> Result<(), WriteError>
     requires countable { K.failure_count sink.old < 2 ^ 64 - 1 }
-    requires races { (races : List (ℕ × ℕ)) × ListsRaces (events_of settled.now) (variables_of settled.now) races (trace_of settled.now) list.old }
-    ensures { (races : List (ℕ × ℕ)) → ListsRaces (events_of settled.now) (variables_of settled.now) races (trace_of settled.now) list.old
+    requires races { (races : List (ℕ × ℕ)) × ListsRaces (events_of settled.now) races (trace_of settled.now) list.old }
+    ensures { (races : List (ℕ × ℕ)) → ListsRaces (events_of settled.now) races (trace_of settled.now) list.old
         → HasReported (These races) plan.now.schedules (trace_of settled.now) K.taken K.failure_count sink.old sink.new result }
 {
     write_front(sink, settled.disciplined.trace, list.count, &list.places)?;

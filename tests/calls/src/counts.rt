@@ -1,12 +1,12 @@
 //! How many races there are, and how many of each place.
 use crate::asserting::{Host, same};
+use crate::numbers::so_many;
 use crate::traces::{Asks, ask_of};
+use shb_counts::{Settled, counted_races};
 use shb_discipline::Disciplined;
 use shb_format::PlaceCount;
 use shb_lines::Pair;
 use shb_links::Links;
-use shb_lists::{Settled, counted_races};
-use shb_scan::nearest_races;
 use shb_stamps::open_variables;
 use std::test::Fail;
 
@@ -23,8 +23,7 @@ impl Asks for CountsAre<'_> {
         let alloc = rt.alloc();
         let flags = open_variables(alloc, trace, links)?;
         let settled = Settled::new(trace, links, &flags);
-        let nearest = nearest_races(rt, alloc, trace, &flags, true)?;
-        let counted = counted_races(rt, alloc, &settled, nearest.as_slice(), MOST)?;
+        let counted = counted_races(rt, alloc, &settled, so_many(rt, 2))?;
         let mut wanted = Vec::new(alloc);
         for (first, second, count) in self.places {
             let pair = Pair {
@@ -46,9 +45,6 @@ impl Asks for CountsAre<'_> {
         Ok(())
     }
 }
-
-/// How many races a batch may have. No count depends on it.
-const MOST: u64 = 4;
 
 /// Each access of x by the second thread races with three writes of the first, at two locations: its read sees its own
 /// write. And y has one race.

@@ -1,5 +1,6 @@
 use Rattle.std.proofs.Common.{◌≡◌, map, take}
-use Rattle.shb_lists.proofs.Words.{ends, pair_in, race_in}
+use Rattle.shb_lines.specs.events.Race.{ends}
+use Rattle.shb_lists.specs.Listed.{pair_in, race_in}
 use Rattle.shb_lists.proofs.listed.pairs_of.Given as goal
 
 abbrev pub invariant-loop-race : goal.invariant-loop-race

@@ -27,7 +27,7 @@ returns-clause-blocks g c others lists =
     let listed = c.write_parts.ensures.2 in
     let shown = map (shown_in schedules trace.events.now) races in
     let same = same_shown g.K.Sink.taken g.K.Sink.failure_count _ c.write_parts.result shown _ listed in
-    let is = same_races trace.events.now trace.sizes.variables races others _ c.write_parts.ensures.1 lists.none_given in
+    let is = same_races trace.events.now races others _ c.write_parts.ensures.1 lists.none_given in
     left_after (λ s. WritesBlocks {T = Unit {0}} {E = WriteError} schedules trace.trace.now others (g.K.Sink.taken c.args.sink.now) (g.K.Sink.taken s) c.write_parts.result) _ c.write_parts.new.writer.sink.now
     (subst (λ (l : List (ℕ × ℕ)). WritesBlocks {T = Unit {0}} {E = WriteError} schedules trace.trace.now l (g.K.Sink.taken c.args.sink.now) (g.K.Sink.taken c.write_parts.new.writer.sink.now) c.write_parts.result) is
     (subst (λ (l : List ShownRace). WritesFront {T = Unit {0}} {E = WriteError} (g.K.Sink.taken c.args.sink.now) (g.K.Sink.taken c.write_parts.new.writer.sink.now) c.write_parts.result (blocks_from trace.trace.now 1 l))

@@ -1,5 +1,6 @@
 use Rattle.std.proofs.Common.{◌∙◌, ap, map}
-use Rattle.shb_lists.proofs.Words.{ends, pair_in}
+use Rattle.shb_lines.specs.events.Race.{ends}
+use Rattle.shb_lists.specs.Listed.{pair_in}
 use Rattle.shb_lists.proofs.GivenLemmas.{pairs_of_trace}
 use Rattle.shb_lists.proofs.list.RaceList.kept.Goals as goal
 

@@ -1,0 +1,12 @@
+pub mod Accesses
+pub mod Covers
+pub mod Gathered
+pub mod Joined
+pub mod Numbered
+pub mod Pieces
+pub mod PlaceSums
+pub mod Runs
+pub mod Settled
+pub mod SumTables
+pub mod Sums
+pub mod Windows

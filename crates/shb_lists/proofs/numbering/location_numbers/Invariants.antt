@@ -1,5 +1,0 @@
-use Rattle.shb_lists.proofs.Words.{AreNumbered}
-use Rattle.shb_lists.proofs.numbering.location_numbers.Given as goal
-
-abbrev pub invariant-loop-e : goal.invariant-loop-e
-invariant-loop-e g l = AreNumbered l.disciplined.trace.now l.flags l.e l.numbers.items l.locations
