@@ -4,8 +4,8 @@ use shb_fan::Workers;
 /// How a run is made.
 #[derive(Clone, Copy, Debug, PartialEq, Eq)]
 pub struct Settings {
-    /// How many workers make the schedules and the text of the races. The search for races isn't shared among them. The
-    /// report is the same for every number of them.
+    /// How many workers count and find the races, and make their schedules and their text. The report is the same for
+    /// every number of them.
     pub workers: Workers,
     /// Whether each race is shown with its schedule.
     pub schedules: bool,

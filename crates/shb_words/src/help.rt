@@ -45,8 +45,8 @@ Costs:
   numbers as races times events. --list leaves the schedules out. A variable
   that two threads write N times without a lock has N times N races: 'shb
   places' lists one of each place, and is for the first look. --workers changes
-  the time alone, never the report: workers share the schedules and the lines of
-  the races; reading the trace, the search for races and writing aren't shared.
+  the time alone, never the report: workers share the search for races, their
+  schedules and their lines; reading the trace and writing aren't shared.
 
 Exit status:
   0  the report was written, or the help that was asked for
