@@ -121,18 +121,18 @@ class Refusals(Refusing):
         return next(k for k in range(1000) if not self.run_refused(words, text, REFUSE_THREADS=k + 1)[1])
 
     def test_numbers_of_workers(self):
-        """Each worker is a thread where pairs or texts are made of the races that were kept, and one when
-        schedules are made; 4 where no number is named. A list of more races than events is written by batches
-        of so many races, 65,536 where there are fewer events, for each of which workers start: fifteen races
-        of twelve events are one. `places --list` has no workers."""
+        """Each worker is a thread where pairs or texts are made of the races of a part, one when schedules are
+        made, and one when the races of a part are found, if it has sixteen accesses; 4 where no number is
+        named. A part has as many races as there are events, 65,536 where there are fewer, so each of these
+        lists is one. `places` finds none so, and `places --list` has no workers."""
         trace, many, few = (self.file(racing(64)), self.file(racing(6), "many.std"),
                             self.file(LOCKED, "few.std"))
         for words, wanted in (
             (["races", "--list", few], 4),
             (["races", "--list", many], 4),
-            (["races", trace], 8),
-            (["races", "--workers", "1", trace], 2),
-            (["races", "--workers", "3", trace], 6),
+            (["races", trace], 12),
+            (["races", "--workers", "1", trace], 3),
+            (["races", "--workers", "3", trace], 9),
             (["races", "--workers", "64", "--list", few], 64),
             (["places", "--list", trace], 0),
             (["places", trace], 8),

@@ -367,11 +367,13 @@ class Sizes(program.Case):
 
     def test_that_clocks_are_shared(self):
         """A clock of 1,024 threads has 4 KiB: one for each read doesn't fit. The reads of a thread that
-        learns nothing share one, and so do threads that read one write."""
+        learns nothing share one. Of reads that learn something the rows of a turn are kept: 256 MiB, and
+        half as much again while they grow."""
         room, reads, readers, rounds = 96 * 2**20, 100_000, MOST_THREADS - 1, 100
         self.assertGreater(4 * MOST_THREADS * reads, 4 * room)
         self.expect_within(room, reads_after_a_race(MOST_THREADS, reads),
                            report_of_reads(MOST_THREADS, reads))
+        room += 352 * 2**20
         self.expect_within(room, reads_of_writes(readers, rounds), report_of_writes(readers, rounds))
 
     def test_races_that_are_kept_with_schedules(self):
