@@ -121,8 +121,8 @@ class Refusals(Refusing):
         return next(k for k in range(1000) if not self.run_refused(words, text, REFUSE_THREADS=k + 1)[1])
 
     def test_numbers_of_workers(self):
-        """Each worker is a thread where pairs or texts are made of the races of a part, one when schedules are
-        made, and one when the races of a part are found, if it has sixteen accesses; 4 where no number is
+        """Each worker is a thread where pairs or texts are made of the races of a part, one when schedules
+        are made, and one when the races of a part are found, if it has sixteen accesses; 4 where no number is
         named. A part has as many races as there are events, 65,536 where there are fewer, so each of these
         lists is one. `places` finds none so, and `places --list` has no workers."""
         trace, many, few = (self.file(racing(64)), self.file(racing(6), "many.std"),
