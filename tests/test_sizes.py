@@ -373,7 +373,7 @@ class Sizes(program.Case):
         self.assertGreater(4 * MOST_THREADS * reads, 4 * room)
         self.expect_within(room, reads_after_a_race(MOST_THREADS, reads),
                            report_of_reads(MOST_THREADS, reads))
-        room += 352 * 2**20
+        room += 416 * 2**20
         self.expect_within(room, reads_of_writes(readers, rounds), report_of_writes(readers, rounds))
 
     def test_races_that_are_kept_with_schedules(self):
