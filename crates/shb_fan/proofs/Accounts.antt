@@ -113,7 +113,8 @@ module _ {T M : Type 0} where
     owed = λ some_halted. absurd (let inside = some_halted.2 in let long = ap length empty in omega (arith, inside, long));
   }
 
-  -- one worker's pass and seat more
+  -- The accounts still balance when one worker's pass and seat are added at the end: `more` are the passes with its own, `others`
+  -- the seats with its own, and what it drew and placed balances by itself. `placed` and `drawn` say how the sums grow.
   pub balanced_more : (passes more : List PassState) (seats others : List (Seat T M)) (p : PassState) (s : Seat T M) → Balanced passes seats → Accounts p.drawn (placed_of s) p.halted → more ≡ passes ++ p ∷ [] → others ≡ seats ++ s ∷ [] → Balanced more others
   balanced_more passes more seats others p s balanced accounts longer wider =
       let placed : (k : ℕ) → sum_by (λ u. times k (placed_of u)) others ≡ sum_by (λ u. times k (placed_of u)) seats + times k (placed_of s) =

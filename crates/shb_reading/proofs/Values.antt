@@ -37,7 +37,8 @@ lines_of_value report h = by report.places h.places
     are_blocks : AreLines (block_forms 1 (length report.blocks) ++ End ∷ []) (block_lines 1 report.blocks ++ codes "end" ∷ [])
     are_blocks = lines_of_blocks 1 report.blocks (End ∷ []) (codes "end" ∷ []) h.blocks (refl, ([], (refl, refl), refl))
 
-    -- by whether the report says its places
+    -- By whether the report says its places: each line takes its form from the stack, in front of the forms that it asks for, from
+    -- the version to `end`. With places the section of places stands before the blocks.
     by : (places : Option (List Place)) → IfSome places ArePlaces → AreLines (Version ∷ (End ∷ []))
         (version_line (is_some places) ∷ (counts_line report.counts ∷ (races_line (length report.blocks) ∷ (places_section places ++ (block_lines 1 report.blocks ++ codes "end" ∷ [])))))
     by None p =

@@ -106,10 +106,12 @@ module _ (trace : List Event) (disciplined : IsDisciplined trace) where
   pub known_pred : (e t : ℕ) → thread_at trace e ≡ Some t → (k : ℕ) → IsKnown trace t e k ↔ BelowPred trace k e
   known_pred e t of_e k = ((λ h. down h h.of_or_forks), (λ below. up below.0 below.2 below.1))
     where
+      -- what the thread knows is below an event before e that is of the thread or forks it, and so below e's predecessor
       down : (h : IsKnown trace t e k) → (thread_at trace h.event ≡ Some t) ⊎ (op_at trace h.event ≡ Some (Fork t)) → BelowPred trace k e
       down h (inl of_t) = let below = thread_below_pred trace t h.event e h.earlier of_t of_e in (below.0, below.1, path_append trace k h.event below.0 h.below below.2)
       down h (inr forks) = let below = fork_below_pred trace disciplined t h.event e forks of_e in (below.0, below.1, path_append trace k h.event below.0 h.below below.2)
 
+      -- the predecessor is of the thread, or forks it, so the thread knows what is below it
       up : (p : ℕ) → ShbBelow trace k p → IsPred trace p e → IsKnown trace t e k
       up p path (in_thread u of_p of_u lt last) = record { event = p; earlier = lt; of_or_forks = inl (of_p ∙ ap (λ (n : ℕ). Some n) (thread_same trace e u t of_u of_e)); below = path }
       up p path (by_fork u forks of_u none) = record { event = p; earlier = pred_earlier trace disciplined p e (by_fork u forks of_u none); of_or_forks = inr (forks ∙ ap (λ (n : ℕ). Some (Fork n)) (thread_same trace e u t of_u of_e)); below = path }

@@ -111,16 +111,20 @@ module _ (tables : Tables) (distinct : IsDistinct bytes_eq tables.variables) whe
   abbrev HasEarlier : ℕ → List Event → ℕ → ℕ → Type 0
   HasEarlier known events k y = (y < known) ⊎ ((j : ℕ) × (j < k) × (variable_at events j ≡ Some y))
 
+  -- one event in front makes each position one larger
   later : (known : ℕ) (e : Event) (events : List Event) (k y : ℕ) → HasEarlier known events k y → HasEarlier known (e ∷ events) (suc k) y
   unfolding op_at
   later known e events k y (inl h) = inl h
   later known e events k y (inr h) = inr (suc h.0, omega (arith, h.1), h.2)
 
+  -- the number of a name is its position among the names up to its own first event, or their length if it is new there
   with_first : (names rest : List (List ℕ)) (name : List ℕ) (x : ℕ) → tables.variables ≡ with_names (with_name names name) rest → slice_get tables.variables x ≡ Some name → x ≡ position_or_len (bytes_eq name) names
   with_first names rest name x is at_x =
       one_number tables.variables name x (position_or_len (bytes_eq name) names) distinct at_x (subst (λ t. slice_get t (position_or_len (bytes_eq name) names) ≡ Some name) (sym is) (slice_get-with_names rest (with_name names name) name _ (with_name-at names name)))
 
-  -- one event in front, whose variable is put after the names before
+  -- one event in front, whose variable is put after the names before: if every number below x is known or of an earlier access
+  -- in the events behind it, so it is with this event. It has no variable, or its variable has a number (`of_one`); at position 0
+  -- that number is x, and those below it are known
   earlier_step : (names : List (List ℕ)) (rest : List (List ℕ)) (e : Event) (events : List Event) (kind : Kind) (name : List ℕ) → OfVariable tables.variables e.op kind name
       → tables.variables ≡ with_names (with_names names (variables_among kind name)) rest → (x y : ℕ) → y < x
       → ((k : ℕ) → variable_at events k ≡ Some x → HasEarlier (length (with_names names (variables_among kind name))) events k y)
