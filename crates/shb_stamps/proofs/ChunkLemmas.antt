@@ -2,11 +2,20 @@
 use Rattle.std.proofs.Common.{◌≤◌, ◌≡◌, ℕ, zero, suc, ◌+◌, ◌*◌, ◌<◌, inl, inr, ◌^◌, List, [], ◌∷◌, ◌++◌, length, get_or, take, drop, refl, ap, subst, sym, ◌∙◌, arith, length-append, length-drop, length-take, append-nil, append_assoc}
 use Rattle.shb_stamps.proofs.Words.{AreChunks, AreInside, AreNumbers, IsInside, IsLonger, cases_lt, drop-append-le, drop_at, get_or-drop, get_or-take, get_or_append_left, get_or_past, get_or_push, length_push, map-append, numbers_in, row_by, row_in, rows_in, take-append-drop, take-append-le, take_all, take_at}
 use Rattle.std.proofs.lemmas.List.Concat.{flat_map-append}
+use Rattle.std.proofs.lemmas.List.{take-map}
+use Rattle.std.specs.Prelude.{min}
+use Rattle.shb_stamps.specs.Chunks.{AreRising, EndsBefore, no_span}
 use Rattle.shb_stamps.specs.declared.row_list.Span.{Span}
 use Rattle.shb_stamps.proofs.RowLemmas.{chunked, take_piece}
 
-abbrev no_span : Span
-no_span = record { start = 0; whole = 0; chunks = 0; rest = 0 }
+none_inside : (chunks : List (List ℕ)) (cells : List ℕ) → IsInside chunks cells no_span
+none_inside chunks cells = record {
+  within = omega arith;
+  numbers_are = λ k lt. absurd (omega (arith, lt));
+  few = omega arith;
+  whole = λ none. refl;
+  chunked = λ lt. refl;
+}
 
 -- lists, and more after them
 pub longer_same : {A : Type 0} (xs : List A) → IsLonger xs xs
@@ -87,9 +96,9 @@ part_more old_chunks old_cells row chunks cells k new more piece n part are few 
 
 -- the entries after the chunks come last
 module _ (old_chunks : List (List ℕ)) (old_cells row : List ℕ) (chunks : List (List ℕ)) (cells : List ℕ) (k count : ℕ) (part : HasPart old_chunks old_cells row chunks cells k) (all : k ≡ count) (some : 0 < count) (few : count < 2 ^ 32)
-    (rest wider : List ℕ) (start size : ℕ) (rest_is : rest ≡ drop (64 * k) row) (wider_is : wider ≡ cells ++ rest) (starts : start ≡ length old_cells) (size_is : size ≡ length rest) where
+    (rest wider : List ℕ) (start size first : ℕ) (rest_is : rest ≡ drop (64 * k) row) (wider_is : wider ≡ cells ++ rest) (starts : start ≡ length old_cells) (size_is : size ≡ length rest) where
   abbrev last : Span
-  last = record { start = start; whole = 0; chunks = count; rest = size }
+  last = record { first = first; start = start; whole = 0; chunks = count; rest = size }
 
   cells_at : wider ≡ old_cells ++ (part.numbers ++ rest)
   cells_at = wider_is ∙ (ap (λ (xs : List ℕ). xs ++ rest) part.cells_are ∙ append_assoc old_cells part.numbers rest)
@@ -117,9 +126,9 @@ module _ (old_chunks : List (List ℕ)) (old_cells row : List ℕ) (chunks : Lis
   }
 
 -- a row without chunks
-module _ (cells wider row : List ℕ) (start size : ℕ) (wider_is : wider ≡ cells ++ row) (starts : start ≡ length cells) (size_is : size ≡ length row) where
+module _ (cells wider row : List ℕ) (start size first : ℕ) (wider_is : wider ≡ cells ++ row) (starts : start ≡ length cells) (size_is : size ≡ length row) where
   abbrev whole : Span
-  whole = record { start = start; whole = size; chunks = 0; rest = 0 }
+  whole = record { first = first; start = start; whole = size; chunks = 0; rest = 0 }
 
   pub whole_row : (chunks : List (List ℕ)) → row_in chunks wider whole ≡ row
   whole_row chunks = ap (take (size + 0)) (ap (λ (n : ℕ). drop n wider) (omega arith) ∙ (ap (drop start) wider_is ∙ drop_at cells row start (sym starts))) ∙ take_all (size + 0) row (omega (arith, size_is))
@@ -175,24 +184,110 @@ module _ (chunks new : List (List ℕ)) (cells wider : List ℕ) (more_chunks : 
     | inl low ↦ subst (IsInside new wider) (sym (ap (λ (xs : List Span). get_or xs k no_span) more_is ∙ get_or_append_left spans (span ∷ []) no_span k low)) (all_grown spans inside k)
     | inr ge ↦ elim (cases_lt k (length more)) [
       | inl one ↦ subst (IsInside new wider) (sym (ap (λ (xs : List Span). get_or xs k no_span) more_is ∙ get_or_push spans span no_span k (let size = ap length more_is ∙ length_push spans span in omega (arith, ge, one, size)))) own
-      | inr past ↦ subst (IsInside new wider) (sym (get_or_past more k no_span past)) none
+      | inr past ↦ subst (IsInside new wider) (sym (get_or_past more k no_span past)) (none_inside new wider)
     ]
   ]
-    where
-      none : IsInside new wider no_span
-      none = record {
-        within = omega arith;
-        numbers_are = λ k lt. absurd (omega (arith, lt));
-        few = omega arith;
-        whole = λ none. refl;
-        chunked = λ lt. refl;
-      }
+
+  rising_one : (span next : Span) → IsInside chunks cells span → EndsBefore cells span next → EndsBefore wider span next
+  rising_one span next inside ends = record {
+    cells_end = ends.cells_end;
+    chunks_end = subst (λ (numbers : List ℕ). (k : ℕ) → k < length numbers → get_or numbers k 0 < next.first) (sym (numbers_same span inside)) ends.chunks_end;
+  }
+
+  pub rising_grown : (spans : List Span) → AreInside chunks cells spans → AreRising cells spans → AreRising wider spans
+  rising_grown spans inside rising k j lt low = rising_one _ _ (inside k) (rising k j lt low)
+
+  pub rising_push : (spans more : List Span) (span : Span) → AreInside chunks cells spans → AreRising cells spans → more ≡ spans ++ span ∷ [] → (span.start ≡ length cells) × (span.first ≡ length chunks) → AreRising wider more
+  rising_push spans more span inside rising is place k j lt low =
+      let size = ap length is ∙ length_push spans span in
+      let early = get_or_append_left spans (span ∷ []) no_span k (omega (arith, lt, low, size)) in
+      let at = ap (λ (xs : List Span). get_or xs k no_span) is ∙ early in
+      elim (cases_lt j (length spans)) [
+        | inl less ↦ subst (λ (next : Span). EndsBefore wider (get_or more k no_span) next) (sym (ap (λ (xs : List Span). get_or xs j no_span) is ∙ get_or_append_left spans (span ∷ []) no_span j less))
+            (subst (λ (one : Span). EndsBefore wider one (get_or spans j no_span)) (sym at) (rising_grown spans inside rising k j lt less))
+        | inr ge ↦ subst (λ (next : Span). EndsBefore wider (get_or more k no_span) next) (sym (ap (λ (xs : List Span). get_or xs j no_span) is ∙ get_or_push spans span no_span j (omega (arith, ge, low, size))))
+            (subst (λ (one : Span). EndsBefore wider one span) (sym at) (rising_one _ span (inside k) (record {
+              cells_end = (let own = (inside k).within in let start = place.0 in omega (arith, own, start));
+              chunks_end = λ i here. (let own = (inside k).numbers_are i here in let first = place.1 in omega (arith, own, first));
+            })))
+      ]
 
 -- the row of a number
 pub row_here : (chunks : List (List ℕ)) (cells : List ℕ) (spans : List Span) (n : ℕ) → n < length spans → get_or (rows_in chunks cells spans) n [] ≡ row_in chunks cells (get_or spans n no_span)
 row_here chunks cells [] n lt = absurd (omega (arith, lt))
 row_here chunks cells (span ∷ spans) zero lt = refl
 row_here chunks cells (span ∷ spans) (suc n) lt = row_here chunks cells spans n (omega (arith, lt))
+
+-- the first rows, in the cells and chunks before those of the next one
+module _ (n : ℕ) (next : Span) (chunks new : List (List ℕ)) (cells narrower : List ℕ) (spans fewer : List Span) (chunks_are : AreChunks chunks) (inside : AreInside chunks cells spans) (rising : AreRising cells spans)
+    (low : n < length spans) (next_is : next ≡ get_or spans n no_span) (new_is : new ≡ take next.first chunks) (narrower_is : narrower ≡ take next.start cells) (fewer_is : fewer ≡ take n spans) where
+  chunks_longer : IsLonger new chunks
+  chunks_longer = record { more = drop next.first chunks; is = sym (ap (λ (xs : List (List ℕ)). xs ++ drop next.first chunks) new_is ∙ take-append-drop next.first chunks) }
+
+  cells_longer : IsLonger narrower cells
+  cells_longer = record { more = drop next.start cells; is = sym (ap (λ (xs : List ℕ). xs ++ drop next.start cells) narrower_is ∙ take-append-drop next.start cells) }
+
+  new_size : length new ≡ min next.first (length chunks)
+  new_size = ap length new_is ∙ length-take next.first chunks
+
+  narrower_size : length narrower ≡ min next.start (length cells)
+  narrower_size = ap length narrower_is ∙ length-take next.start cells
+
+  fewer_size : length fewer ≡ n
+  fewer_size = ap length fewer_is ∙ (let size = length-take n spans in omega (arith, size, low))
+
+  span_same : (k : ℕ) → k < n → get_or fewer k no_span ≡ get_or spans k no_span
+  span_same k lt = ap (λ (xs : List Span). get_or xs k no_span) fewer_is ∙ get_or-take n spans k no_span lt
+
+  ends : (k : ℕ) → k < n → EndsBefore cells (get_or fewer k no_span) next
+  ends k lt = subst (λ (one : Span). EndsBefore cells one next) (sym (span_same k lt)) (subst (EndsBefore cells (get_or spans k no_span)) (sym next_is) (rising k n lt low))
+
+  held : (k : ℕ) → k < n → IsInside chunks cells (get_or fewer k no_span)
+  held k lt = subst (IsInside chunks cells) (sym (span_same k lt)) (inside k)
+
+  -- the numbers of a row's chunks stay as they are
+  numbers_cut : (span : Span) → IsInside chunks cells span → EndsBefore cells span next → numbers_in cells span ≡ numbers_in narrower span
+  numbers_cut span one before =
+      let within = one.within in
+      let end = before.cells_end in
+      ap (λ (xs : List ℕ). take span.chunks (drop span.start xs)) cells_longer.is
+      ∙ (ap (take span.chunks) (drop-append-le span.start narrower cells_longer.more (omega (arith, within, end, narrower_size)))
+      ∙ take-append-le span.chunks (drop span.start narrower) cells_longer.more (let long = length-drop span.start narrower in omega (arith, long, within, end, narrower_size)))
+
+  inside_cut : (span : Span) → IsInside chunks cells span → EndsBefore cells span next → IsInside new narrower span
+  inside_cut span one before = record {
+    within = (let within = one.within in let end = before.cells_end in omega (arith, within, end, narrower_size));
+    numbers_are = subst (AreNumbers new) (numbers_cut span one before) (λ k lt. (let is = one.numbers_are k lt in let end = before.chunks_end k lt in omega (arith, is, end, new_size)));
+    few = one.few;
+    whole = one.whole;
+    chunked = one.chunked;
+  }
+
+  chunks_cut : AreChunks new
+  chunks_cut k lt = ap length (ap (λ (xs : List (List ℕ)). get_or xs k []) new_is ∙ get_or-take next.first chunks k [] (omega (arith, lt, new_size))) ∙ chunks_are k (omega (arith, lt, new_size))
+
+  all_cut : AreInside new narrower fewer
+  all_cut k = elim (cases_lt k n) [
+    | inl lt ↦ inside_cut (get_or fewer k no_span) (held k lt) (ends k lt)
+    | inr past ↦ subst (IsInside new narrower) (sym (get_or_past fewer k no_span (omega (arith, past, fewer_size)))) (none_inside new narrower)
+  ]
+
+  rising_cut : AreRising narrower fewer
+  rising_cut k j lt less =
+      let early : k < n = omega (arith, lt, less, fewer_size) in
+      let before = subst (EndsBefore cells (get_or fewer k no_span)) (sym (span_same j (omega (arith, less, fewer_size))))
+      (subst (λ (one : Span). EndsBefore cells one (get_or spans j no_span)) (sym (span_same k early)) (rising k j lt (omega (arith, less, fewer_size, low)))) in
+      record {
+        cells_end = before.cells_end;
+        chunks_end = subst (λ (numbers : List ℕ). (i : ℕ) → i < length numbers → get_or numbers i 0 < (get_or fewer j no_span).first) (numbers_cut (get_or fewer k no_span) (held k early) (ends k early)) before.chunks_end;
+      }
+
+  pub spans_cut : AreChunks new × AreInside new narrower fewer × AreRising narrower fewer
+  spans_cut = (chunks_cut, all_cut, rising_cut)
+
+  pub rows_cut : (a : ℕ) → a < n → get_or (rows_in new narrower fewer) a [] ≡ get_or (rows_in chunks cells spans) a []
+  rows_cut a lt = ap (λ (rows : List (List ℕ)). get_or rows a []) (sym (rows_grown new chunks narrower cells chunks_longer cells_longer fewer all_cut) ∙ (ap (rows_in chunks cells) fewer_is ∙ sym (take-map (row_in chunks cells) n spans)))
+      ∙ get_or-take n (rows_in chunks cells spans) a [] lt
 
 rows_length : (chunks : List (List ℕ)) (cells : List ℕ) (spans : List Span) → length (rows_in chunks cells spans) ≡ length spans
 rows_length chunks cells [] = refl

@@ -411,14 +411,14 @@ clocks_none trace all rows current locks variables threads many_locks many_varia
     }
 
 -- the rows were moved, and the first stayed the first
-pub clocks_moved : (trace : List Event) (n : ℕ) (all : Bool) (rows new : List (List ℕ)) (current after : List ℕ) (locks locks_after variables variables_after : List Stamp) → HasMoved rows new current after locks locks_after variables variables_after → IsMovedRow rows new 0 0 → AreClocks trace n all rows current locks variables
+pub clocks_moved : (trace : List Event) (n : ℕ) (all : Bool) (rows new : List (List ℕ)) (current after : List ℕ) (locks locks_after variables variables_after : List Stamp) → HasMoved rows new current after locks locks_after variables variables_after → AreClocks trace n all rows current locks variables
     → AreClocks trace n all new after locks_after variables_after
-clocks_moved trace n all rows new current after locks locks_after variables variables_after moved first old = record {
-  some = first.in_range;
+clocks_moved trace n all rows new current after locks locks_after variables variables_after moved old = record {
+  some = moved.first.in_range;
   few = (let fewer = moved.few in let few = old.few in omega (arith, fewer, few));
   current_are = λ t. (let row = old.current_are t in row_moved trace rows new t (get_or current t 0) (get_or after t 0) (IsKnown trace t n) (elim (cases_lt t (length current)) [
     | inl low ↦ moved.numbers.each t low row.in_range
-    | inr ge ↦ subst (λ (m : ℕ). IsMovedRow rows new m (get_or after t 0)) (sym (get_or_past current t 0 ge)) (subst (IsMovedRow rows new 0) (sym (get_or_past after t 0 (let many = moved.numbers.as_many in omega (arith, many, ge)))) first)
+    | inr ge ↦ subst (λ (m : ℕ). IsMovedRow rows new m (get_or after t 0)) (sym (get_or_past current t 0 ge)) (subst (IsMovedRow rows new 0) (sym (get_or_past after t 0 (let many = moved.numbers.as_many in omega (arith, many, ge)))) moved.first)
   ]) row);
   locks_are = λ l. latest_moved trace rows new (ReleasesLock trace l) n (get_or locks l empty_stamp) (get_or locks_after l empty_stamp) (stamp locks locks_after moved.releases l) (old.locks_are l);
   variables_are = λ x. latest_moved trace rows new (KeepsWrite all trace x) n (get_or variables x empty_stamp) (get_or variables_after x empty_stamp) (stamp variables variables_after moved.writes x) (old.variables_are x);
@@ -428,5 +428,5 @@ clocks_moved trace n all rows new current after locks locks_after variables vari
     stamp before stamps alike x = elim (cases_lt x (length before)) [
       | inl low ↦ alike.each x low
       | inr ge ↦ subst (λ (s : Stamp). IsMovedStamp (MovesRow rows new) s (get_or stamps x empty_stamp)) (sym (get_or_past before x empty_stamp ge)) (subst (IsMovedStamp (MovesRow rows new) empty_stamp) (sym (get_or_past stamps x empty_stamp (let many = alike.as_many in omega (arith, many, ge))))
-          (record { thread = refl; time = refl; row = λ low. first }))
+          (record { thread = refl; time = refl; row = λ low. moved.first }))
     ]

@@ -26,7 +26,7 @@ pub use Rattle.shb_stamps.specs.Clocks.{AreClocks, Covers, HasRowAfter, IsBefore
 pub use Rattle.shb_stamps.specs.Counts.{AreRaisedCounts, IsRaisedCount}
 pub use Rattle.shb_stamps.specs.Fronts.{BelowLastWrite, BelowRelease, BelowThread, IsFrontBut, Learns, by_acquire, by_join, by_read}
 pub use Rattle.shb_stamps.specs.Listed.{AreListedRows}
-pub use Rattle.shb_stamps.specs.Moved.{AreAlike, AreKept, AreMoved, HasMoved, HasMovedOn, IsMovedRow, IsMovedStamp, IsNewNumber, MovesRow}
+pub use Rattle.shb_stamps.specs.Moved.{AreAlike, AreMarked, HasCompacted, HasMarked, HasMoved, HasTaken, IsMovedRow, IsMovedStamp, IsNewNumber, MovesRow}
 pub use Rattle.shb_stamps.specs.Stamps.{AreMore, IsKnown, IsLatestStamp, IsRowFor, IsSource, IsStampOf, KnowsStamp, empty_stamp, from_event, nothing_new, of_event, of_none}
 pub use Rattle.shb_stamps.specs.Screen.{HasLatest, IsAccess, IsEpoch, IsMarked, IsPast, IsScreened, is_unknown}
 pub use Rattle.shb_stamps.specs.Settling.{AreOpen, AreScreened}

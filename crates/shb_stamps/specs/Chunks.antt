@@ -38,11 +38,11 @@ pub record Rows : Type 0 where
   pub list : List (List ℕ)
   pub size : ℕ
 
--- all rows, with 32 bytes each, 4 for each cell and 256 for each chunk
+-- all rows, with 40 bytes each, 4 for each cell and 256 for each chunk
 abbrev pub stored : List (List ℕ) → List ℕ → List Span → Rows
 stored chunks cells spans = record {
   list = rows_in chunks cells spans;
-  size = min (32 * length spans + 4 * length cells + 256 * length chunks) (2 ^ 64 - 1);
+  size = min (40 * length spans + 4 * length cells + 256 * length chunks) (2 ^ 64 - 1);
 }
 
 -- the cells of a row are among these, and name chunks; it is whole, or it has chunks
@@ -53,9 +53,21 @@ pub record IsInside (chunks : List (List ℕ)) (cells : List ℕ) (span : Span) 
   pub whole : span.chunks ≡ 0 → span.rest ≡ 0
   pub chunked : 0 < span.chunks → span.whole ≡ 0
 
+abbrev pub no_span : Span
+no_span = record { first = 0; start = 0; whole = 0; chunks = 0; rest = 0 }
+
 -- so are those of each row
 abbrev pub AreInside : List (List ℕ) → List ℕ → List Span → Type 0
-AreInside chunks cells spans = (k : ℕ) → IsInside chunks cells (slice_index_or spans k record { start = 0; whole = 0; chunks = 0; rest = 0 })
+AreInside chunks cells spans = (k : ℕ) → IsInside chunks cells (slice_index_or spans k no_span)
+
+-- the cells of a row come before those of another one, and its chunks are among the first ones of that
+pub record EndsBefore (cells : List ℕ) (span next : Span) : Type 0 where
+  pub cells_end : span.start + span.chunks + (span.whole + span.rest) ≤ next.start
+  pub chunks_end : (k : ℕ) → k < length (numbers_in cells span) → slice_index_or (numbers_in cells span) k 0 < next.first
+
+-- each row comes before the later ones
+abbrev pub AreRising : List ℕ → List Span → Type 0
+AreRising cells spans = (k j : ℕ) → k < j → j < length spans → EndsBefore cells (slice_index_or spans k no_span) (slice_index_or spans j no_span)
 
 -- a list, and more after it
 pub record IsLonger {A : Type 0} (old new : List A) : Type 0 where

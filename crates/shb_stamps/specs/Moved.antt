@@ -1,6 +1,6 @@
 -- Rows of which those in use are moved to new ones.
-use Rattle.std.specs.Prelude.{◌≡◌, ℕ, zero, suc, ◌+◌, ◌<◌, ◌≤◌, List, [], length, slice_index_or, sum_by}
-use Rattle.shb_stamps.specs.Stamps.{empty_stamp}
+use Rattle.std.specs.Prelude.{◌≡◌, ℕ, ◌+◌, ◌-◌, ◌<◌, ◌≤◌, List, [], length, slice_index_or}
+use Rattle.shb_stamps.specs.Stamps.{AreMore, empty_stamp}
 use Rattle.shb_stamps.specs.declared.stamp.Stamp.{Stamp}
 
 -- the new row b is the old row a
@@ -23,36 +23,37 @@ pub record AreAlike {A : Type 0} (default : A) (IsAlike : A → A → Type 0) (b
   pub as_many : length after ≡ length before
   pub each : (x : ℕ) → x < length before → IsAlike (slice_index_or before x default) (slice_index_or after x default)
 
--- the rows that tables name are among the new rows, which aren't more, and the tables name them there
+-- the first row stays the first; the rows that tables name are among the new rows, which aren't more, and the tables name them there
 pub record HasMoved (old new : List (List ℕ)) (current current_after : List ℕ) (locks locks_after variables variables_after : List Stamp) : Type 0 where
   pub few : length new ≤ length old
+  pub first : IsMovedRow old new 0 0
   pub numbers : AreAlike 0 (MovesRow old new) current current_after
   pub releases : AreAlike empty_stamp (IsMovedStamp (MovesRow old new)) locks locks_after
   pub writes : AreAlike empty_stamp (IsMovedStamp (MovesRow old new)) variables variables_after
 
--- the first n of the old rows that are kept, by their numbers, in this order
-pub record AreKept (old : List (List ℕ)) (kept : List ℕ) (n : ℕ) (new : List (List ℕ)) : Type 0 where
-  pub as_many : length new ≡ n
-  pub each : (b : ℕ) → b < n → slice_index_or new b [] ≡ slice_index_or old (slice_index_or kept b 0) []
+-- rows that had marks have some, and more may
+pub record HasMarked (before after : List ℕ) : Type 0 where
+  pub as_many : length after ≡ length before
+  pub more : (a : ℕ) → 0 < slice_index_or before a 0 → 0 < slice_index_or after a 0
 
--- where a is the number of one of so many rows, the row is kept, and b is its new number
-abbrev pub IsNewNumber : ℕ → List ℕ → ℕ → ℕ → Type 0
-IsNewNumber count kept a b = a < count → (b < length kept) × (slice_index_or kept b 0 ≡ a)
+-- the first n of these rows have marks
+abbrev pub AreMarked : List ℕ → (ℕ → ℕ) → ℕ → Type 0
+AreMarked marks row n = (x : ℕ) → x < n → row x < length marks → 0 < slice_index_or marks (row x) 0
 
--- 1 for a row that isn't kept
-unfoldable pub unmoved : ℕ → ℕ
-unmoved zero = 1
-unmoved (suc number) = 0
+-- b is the new number of the row a, which stands there plus 1
+abbrev pub IsNewNumber : List ℕ → ℕ → ℕ → Type 0
+IsNewNumber moved a b = b ≡ slice_index_or moved a 0 - 1
 
--- the numbers of rows that are kept, and for each row one more than its new number, or 0 where it isn't kept
-pub record AreMoved (kept moved : List ℕ) : Type 0 where
-  pub few : length kept + sum_by unmoved moved ≡ length moved
-  pub low : (b : ℕ) → b < length kept → slice_index_or kept b 0 < length moved
-  pub each : (a b : ℕ) → slice_index_or moved a 0 ≡ b + 1 → (b < length kept) × (slice_index_or kept b 0 ≡ a)
+-- the row a has come to the end of new rows, if it had a mark, and its new number plus 1 stands there
+pub record HasTaken (old : List (List ℕ)) (a : ℕ) (new new_after : List (List ℕ)) (marks marks_after : List ℕ) : Type 0 where
+  pub as_many : length marks_after ≡ length marks
+  pub rows : AreMore new new_after
+  pub few : length new_after ≤ length new + 1
+  pub others : (b : ℕ) → (b ≡ a → ⊥) → slice_index_or marks_after b 0 ≡ slice_index_or marks b 0
+  pub moved : 0 < slice_index_or marks a 0 → (slice_index_or marks_after a 0 ≡ length new + 1) × IsMovedRow old new_after a (length new)
 
--- more rows are kept; those that were have the new numbers that they had
-pub record HasMovedOn (kept moved kept_after moved_after : List ℕ) : Type 0 where
-  pub are : AreMoved kept_after moved_after
-  pub as_many : length moved_after ≡ length moved
-  pub more : length kept ≤ length kept_after
-  pub same : (b : ℕ) → b < length kept → slice_index_or kept_after b 0 ≡ slice_index_or kept b 0
+-- the rows that had marks are among the new ones, each at its new number, and no more than had room for a mark
+pub record HasCompacted (old new : List (List ℕ)) (marks moved : List ℕ) : Type 0 where
+  pub few : length new ≤ length marks
+  pub first : 0 < slice_index_or marks 0 0 → slice_index_or moved 0 0 ≡ 1
+  pub each : (a : ℕ) → a < length marks → 0 < slice_index_or marks a 0 → IsMovedRow old new a (slice_index_or moved a 0 - 1)

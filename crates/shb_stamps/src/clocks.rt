@@ -10,7 +10,7 @@
 //! | `C|r(x)` | none: the stamp names it | 0, 1, 1 | 1 A 1 |
 //! | `B|w(x)` | | 0, 1, 1 | 1 B 2: the clock `1 2` |
 
-ghost use Rattle.std.specs.Prelude.{◌≡◌, ◌+◌, ◌-◌, ◌*◌, ◌⊎◌, ◌<◌, ◌≤◌, ◌↔◌, ◌^◌, ℕ, Bool, List, [], IfOk, IsTrue, OnOk, false, true, length, max, min, slice_index_or};
+ghost use Rattle.std.specs.Prelude.{◌≡◌, ◌+◌, ◌-◌, ◌*◌, ◌/◌, ◌⊎◌, ◌<◌, ◌≤◌, ◌↔◌, ◌^◌, ℕ, Bool, List, [], IfOk, IsTrue, OnOk, false, true, length, max, min, slice_index_or};
 ghost use Rattle.shb_lines.specs.Growing.{IsPut};
 ghost use Rattle.shb_lines.specs.declared.event.Event.{Event};
 ghost use Rattle.shb_lines.specs.declared.event.Op.TheVariants.{Fork, Read, Release, Write};
@@ -18,7 +18,7 @@ ghost use Rattle.shb_stamps.specs.Clocks.{Covers, HasRowAfter, IsBefore, IsNext,
 ghost use Rattle.shb_stamps.specs.Stamps.{IsSource, KnowsStamp, empty_stamp};
 
 use crate::clock::zeros;
-use crate::moving::compacted;
+use crate::moving::compact;
 use crate::row_list::RowList;
 use crate::stamp::{Stamp, is_joined, no_stamps};
 use shb_io::NoMemory;
@@ -27,8 +27,8 @@ use std::alloc::Global;
 
 /// What is known of the order before an event. Threads, locks and variables are told by their numbers, and each
 /// event may name new ones. A row has an entry for each thread up to the last one that it knows, and never
-/// changes. Where the rows have grown to twice what those in use took, the ones that a thread, a lock or a
-/// variable names are moved to a new memory, and the old one is freed.
+/// changes. Where the rows have grown by four fifths of what those in use took, the ones that a thread, a lock or a
+/// variable names are moved to a new memory, and the old one is freed meanwhile.
 #[derive(Drop)]
 pub struct Clocks {
     pub rows: RowList,
@@ -52,12 +52,12 @@ pub struct AfterSource {
     pub renames: bool,
 }
 
-/// The size of the rows at which the next compaction is due: twice that of those in use, at least 1 MiB, and at
-/// least the bytes of all stamps, which a compaction looks at.
+/// The size of the rows at which the next compaction is due: four fifths more than that of those in use, at least
+/// 1 MiB, and at least the bytes of all stamps, which a compaction looks at.
 fn size_limit(used: usize, stamps: usize) -> usize
-    ensures { result ≡ max (max (min (used * 2) (2 ^ 64 - 1)) (min (stamps * 12) (2 ^ 64 - 1))) 1048576 }
+    ensures { result ≡ max (max (min (used + used / 5 * 4) (2 ^ 64 - 1)) (min (stamps * 12) (2 ^ 64 - 1))) 1048576 }
 {
-    used.saturating_mul(2)
+    used.saturating_add(used / 5 * 4)
         .max(stamps.saturating_mul(12))
         .max(1_048_576)
 }
@@ -318,9 +318,9 @@ impl Clocks {
         ensures most { OnOk result (self.new.limit ≤ max 1048576 (max (12 * (length self.new.locks.items + length self.new.variables.items)) (2 * self.new.rows.size))) }
         ensures before { (trace : List Event) (n : ℕ) (all : Bool) → n + 1 < 2 ^ 32 → IsBefore trace n all self.old → OnOk result (IsBefore trace n all self.new) }
     {
-        self.rows = compacted(
+        compact(
             alloc,
-            &self.rows,
+            &mut self.rows,
             &mut self.current,
             &mut self.locks,
             &mut self.variables,

@@ -12,7 +12,6 @@
 
 ghost use Rattle.std.specs.Prelude.{◌≡◌, ◌+◌, ◌-◌, ◌*◌, ◌/◌, ◌≤◌, ◌<◌, ◌++◌, ◌^◌, List, [], ◌∷◌, ℕ, IfOk, IfSome, OnOk, length, max, min, slice_index_or, true};
 ghost use Rattle.shb_stamps.specs.Chunks.{AreChunks, IsInside, IsLonger, row_in};
-ghost use Rattle.shb_stamps.specs.Moved.{AreKept};
 
 use crate::clock::{is_below, set_length};
 use crate::row::{CHUNK, Row, chunk_at, raise_to};
@@ -29,9 +28,11 @@ const WHOLE: usize = 512;
 const WHOLE_UNLIKE: usize = 1024;
 
 /// Where the cells of a row are in the memory of all. Either it is whole and has so many entries, or it begins with so
-/// many chunks, whose numbers come first, and has so many entries after those.
+/// many chunks, whose numbers come first, and has so many entries after those. The rows before it have the cells before
+/// its own, and the first chunks.
 #[derive(Clone, Copy, Drop)]
 struct Span {
+    first: usize,
     start: usize,
     whole: usize,
     chunks: usize,
@@ -119,9 +120,10 @@ fn shared(chunks: &mut Vec<[u32; 64]>, hint: u32, piece: &[u32]) -> Result<u32, 
     Ok(number)
 }
 
-/// Adds the cells of a row as a whole.
+/// Adds the cells of a row as a whole. There are so many chunks.
 #[inline(always)]
-fn add_whole(cells: &mut Vec<u32>, row: &Row<'_>) -> Result<Span, NoMemory>
+fn add_whole(cells: &mut Vec<u32>, first: usize, row: &Row<'_>) -> Result<Span, NoMemory>
+    ensures place { IfOk result (λ span. (span.start ≡ length cells.old.items) × (span.first ≡ first)) }
     ensures longer { IsLonger cells.old.items cells.new.items }
     ensures inside { (chunks : List (List ℕ)) → IfOk result (IsInside chunks cells.new.items) }
     ensures row { (chunks : List (List ℕ)) → IfOk result (λ span. row_in chunks cells.new.items span ≡ row.now) }
@@ -129,6 +131,7 @@ fn add_whole(cells: &mut Vec<u32>, row: &Row<'_>) -> Result<Span, NoMemory>
     let start = cells.len();
     row.append_to(cells)?;
     Ok(Span {
+        first,
         start,
         whole: row.len(),
         chunks: 0,
@@ -144,19 +147,21 @@ fn add_cells(
     row: &Row<'_>,
 ) -> Result<Span, NoMemory>
     requires { AreChunks chunks.old.items }
+    ensures place { IfOk result (λ span. (span.start ≡ length cells.old.items) × (span.first ≡ length chunks.old.items)) }
     ensures chunks { AreChunks chunks.new.items }
     ensures longer { IsLonger chunks.old.items chunks.new.items × IsLonger cells.old.items cells.new.items }
     ensures inside { IfOk result (IsInside chunks.new.items cells.new.items) }
     ensures row { IfOk result (λ span. row_in chunks.new.items cells.new.items span ≡ row.now) }
 {
     let start = cells.len();
+    let first = chunks.len();
     let count = row.len().saturating_sub(1) / CHUNK;
     if row.len() <= CHUNK {
-        return add_whole(cells, row);
+        return add_whole(cells, first, row);
     }
-    let numbers = chunks.len().saturating_add(count);
+    let numbers = first.saturating_add(count);
     if numbers > u32::MAX as usize {
-        return add_whole(cells, row);
+        return add_whole(cells, first, row);
     }
     for k in 0..count {
         let hint = item_or(hints, k as u32, u32::MAX);
@@ -166,6 +171,7 @@ fn add_cells(
     let rest = row.piece(count);
     cells.extend_from_slice(rest)?;
     Ok(Span {
+        first,
         start,
         whole: 0,
         chunks: count,
@@ -189,13 +195,13 @@ fn add_copies(hints: &mut Vec<u32>, numbers: &[u32], copies: &[u32]) -> Result<(
 }
 
 impl Model for RowList {
-    ghost use Rattle.shb_stamps.specs.Chunks.{AreChunks, AreInside, Rows, stored};
+    ghost use Rattle.shb_stamps.specs.Chunks.{AreChunks, AreInside, AreRising, Rows, stored};
 
     ghost Value = { Rows };
 
     ghost view = { λ r. stored r.chunks.items r.cells.items r.spans.items };
 
-    ghost invariant = { λ r. AreChunks r.chunks.items × AreInside r.chunks.items r.cells.items r.spans.items };
+    ghost invariant = { λ r. AreChunks r.chunks.items × AreInside r.chunks.items r.cells.items r.spans.items × AreRising r.cells.items r.spans.items };
 }
 
 impl RowList {
@@ -235,7 +241,7 @@ impl RowList {
         let short = self
             .spans
             .len()
-            .saturating_mul(32)
+            .saturating_mul(40)
             .saturating_add(self.cells.len().saturating_mul(4));
         short.saturating_add(self.chunks.len().saturating_mul(256))
     }
@@ -368,7 +374,8 @@ impl RowList {
         ensures number { length self.old.list < 2 ^ 32 → IfOk result (λ number. number ≡ length self.old.list) }
     {
         let number = self.count();
-        let span = add_whole(&mut self.cells, &Row::of(entries))?;
+        let first = self.chunks.len();
+        let span = add_whole(&mut self.cells, first, &Row::of(entries))?;
         self.spans.push(span)?;
         Ok(number)
     }
@@ -462,7 +469,7 @@ impl RowList {
 
     /// No rows, with room at once for half as many again as other ones: memory that grows is moved, and takes as much
     /// again meanwhile.
-    fn empty_for(alloc: Global, other: &RowList) -> Result<RowList, NoMemory>
+    pub fn empty_for(alloc: Global, other: &RowList) -> Result<RowList, NoMemory>
         ensures { IfOk result (λ rows. rows.list ≡ []) }
     {
         Ok(RowList {
@@ -476,7 +483,12 @@ impl RowList {
     /// Adds a row of other rows. It has the copies of its chunks, where they are noted, and those that are new are
     /// noted.
     #[inline(always)]
-    fn keep(&mut self, rows: &RowList, number: u32, copies: &mut Vec<u32>) -> Result<(), NoMemory>
+    pub fn keep(
+        &mut self,
+        rows: &RowList,
+        number: u32,
+        copies: &mut Vec<u32>,
+    ) -> Result<(), NoMemory>
         ensures { OnOk result (self.new.list ≡ self.old.list ++ slice_index_or rows.now.list number [] ∷ []) }
     {
         if let Some(entries) = rows.whole(number) {
@@ -489,15 +501,19 @@ impl RowList {
         self.note_copies(row.numbers(), copies)
     }
 
-    /// The rows with these numbers, in this order, in a memory of their own. What was one chunk is one again.
-    pub fn kept(&self, alloc: Global, kept: &[u32]) -> Result<RowList, NoMemory>
-        ensures { IfOk result (λ rows. AreKept self.now.list kept.now (length kept.now) rows.list) }
+    /// Frees the rows from a number on, and the memory that no other row needs.
+    pub fn cut(&mut self, count: usize)
+        ensures { (a : ℕ) → a < count → slice_index_or self.new.list a [] ≡ slice_index_or self.old.list a [] }
     {
-        let mut list = RowList::empty_for(alloc, self)?;
-        let mut copies = Vec::new(alloc);
-        for b in 0..kept.len() {
-            list.keep(self, kept[b], &mut copies)?;
+        if count >= self.spans.len() {
+            return;
         }
-        Ok(list)
+        let next = self.spans[count];
+        self.spans.truncate(count);
+        self.cells.truncate(next.start);
+        self.chunks.truncate(next.first);
+        self.spans.shrink_to_fit();
+        self.cells.shrink_to_fit();
+        self.chunks.shrink_to_fit();
     }
 }

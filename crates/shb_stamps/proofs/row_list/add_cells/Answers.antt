@@ -43,7 +43,7 @@ module _ (c : goal.In_ok-extend_from_slice) where
       c.piece-rest.ensures ∙ (take_all 64 (drop (64 * count) c.args.row.now) (omega (arith, left, less, long)) ∙ ap (λ (k : ℕ). drop (64 * k) c.args.row.now) (sym at_end))
 
 pub returns-clause-inside : goal.returns-clause-inside
-returns-clause-inside c = part_inside _ _ c.args.row.now c.loop-k.chunks.items c.loop-k.cells.items c.loop-k.k _ c.loop-k.invariant (at_end c) (some c) (few c) c.piece-rest.result.now _ c.len-start.result _ (rest_is c) c.in_ok-extend_from_slice.ensures.items (omega (arith, c.len-start.ensures)) refl
+returns-clause-inside c = part_inside _ _ c.args.row.now c.loop-k.chunks.items c.loop-k.cells.items c.loop-k.k _ c.loop-k.invariant (at_end c) (some c) (few c) c.piece-rest.result.now _ c.len-start.result _ c.len-first.result (rest_is c) c.in_ok-extend_from_slice.ensures.items (omega (arith, c.len-start.ensures)) refl
 
 pub returns-clause-row : goal.returns-clause-row
-returns-clause-row c = part_row _ _ c.args.row.now c.loop-k.chunks.items c.loop-k.cells.items c.loop-k.k _ c.loop-k.invariant (at_end c) (some c) (few c) c.piece-rest.result.now _ c.len-start.result _ (rest_is c) c.in_ok-extend_from_slice.ensures.items (omega (arith, c.len-start.ensures)) refl
+returns-clause-row c = part_row _ _ c.args.row.now c.loop-k.chunks.items c.loop-k.cells.items c.loop-k.k _ c.loop-k.invariant (at_end c) (some c) (few c) c.piece-rest.result.now _ c.len-start.result _ c.len-first.result (rest_is c) c.in_ok-extend_from_slice.ensures.items (omega (arith, c.len-start.ensures)) refl
