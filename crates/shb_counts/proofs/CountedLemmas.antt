@@ -28,7 +28,7 @@ use Rattle.shb_counts.specs.Accesses.{AreAccesses, IsAccess, StandsBefore}
 use Rattle.shb_counts.specs.Joined.{ArePlacesOf}
 use Rattle.shb_counts.specs.Numbered.{AreNumbered, key_in}
 use Rattle.shb_counts.specs.PlaceSums.{AreSums}
-use Rattle.shb_counts.specs.Runs.{AreCountable}
+use Rattle.shb_counts.specs.Runs.{AreCountable, CanAsk}
 use Rattle.shb_counts.specs.Sums.{AreSumsOf, IsBefore, IsCounted, IsNotAfter, pairs_with, sum_of}
 use Rattle.shb_counts.specs.declared.accesses.Access.{Access}
 use Rattle.shb_counts.specs.declared.accesses.Accesses.{Accesses}
@@ -52,13 +52,20 @@ turn_events trace numbers all list events from to each is are =
     subst (All (λ e. e < length trace)) (sym are) (All-map (λ e. e < length trace) (λ (access : Access). access.event) list (λ k d lt. (own k d lt).in_range))
 
 -- and an order that was made at them can be asked about each
-pub turn_countable : (order : ListedTrace) (trace : List Event) (flags : List Bool) (numbers : List ℕ) (accesses : Accesses) (list : List Access) (events : List ℕ) (from to : ℕ) → AreAccesses trace flags numbers accesses → list ≡ slice_range accesses.list.items from to
-    → events ≡ map (λ (access : Access). access.event) list → order.trace ≡ trace → ((e : ℕ) → Contains order.events e ↔ Contains events e) → AreCountable order flags numbers accesses list
-turn_countable order trace flags numbers accesses list events from to kept is are of_trace asked = record {
-  kept = subst (λ (t : List Event). AreAccesses t flags numbers accesses) (sym of_trace) kept;
-  each = subst (λ (t : List Event). All (IsAccess t numbers) list) (sym of_trace) own;
-  are_open = subst (All (λ (access : Access). is_open flags access.variable ≡ true)) (sym is) (All-take (λ (access : Access). is_open flags access.variable ≡ true) (to - from) (drop from accesses.list.items) (All-drop (λ (access : Access). is_open flags access.variable ≡ true) from accesses.list.items (each_open trace flags numbers accesses kept)));
+pub turn_asked : (order : ListedTrace) (trace : List Event) (list : List Access) (events : List ℕ) → events ≡ map (λ (access : Access). access.event) list
+    → order.trace ≡ trace → ((e : ℕ) → Contains order.events e ↔ Contains events e) → CanAsk trace list order
+turn_asked order trace list events are of_trace asked = record {
+  of_trace = of_trace;
   asked = λ k d lt. contains_listed order.events (get_or list k d).event ((asked (get_or list k d).event).1 (subst (λ (es : List ℕ). Contains es (get_or list k d).event) (sym are) (map_contains (λ (access : Access). access.event) list (get_or list k d) (Contains-get_or list k d lt))));
+}
+
+pub turn_countable : (order : ListedTrace) (trace : List Event) (flags : List Bool) (numbers : List ℕ) (accesses : Accesses) (list : List Access) (from to : ℕ)
+    → AreAccesses trace flags numbers accesses → list ≡ slice_range accesses.list.items from to → CanAsk trace list order → AreCountable order flags numbers accesses list
+turn_countable order trace flags numbers accesses list from to kept is can = record {
+  kept = subst (λ (t : List Event). AreAccesses t flags numbers accesses) (sym can.of_trace) kept;
+  each = subst (λ (t : List Event). All (IsAccess t numbers) list) (sym can.of_trace) own;
+  are_open = subst (All (λ (access : Access). is_open flags access.variable ≡ true)) (sym is) (All-take (λ (access : Access). is_open flags access.variable ≡ true) (to - from) (drop from accesses.list.items) (All-drop (λ (access : Access). is_open flags access.variable ≡ true) from accesses.list.items (each_open trace flags numbers accesses kept)));
+  asked = can.asked;
   in_order = subst (AllPairs StandsBefore) (sym is) (pairs_within StandsBefore accesses.list.items from to kept.in_order);
 }
   where

@@ -22,6 +22,11 @@ pub record AreCountable (ordered : ListedTrace) (flags : List Bool) (numbers : L
   pub asked : All (λ access. is_listed ordered.events access.event ≡ true) list
   pub in_order : AllPairs StandsBefore list
 
+-- an order of a trace can be asked about some accesses
+pub record CanAsk (trace : List Event) (list : List Access) (ordered : ListedTrace) : Type 0 where
+  pub of_trace : ordered.trace ≡ trace
+  pub asked : All (λ access. is_listed ordered.events access.event ≡ true) list
+
 -- an access has the variable, location and kind of another
 pub record IsLike (one access : Access) : Type 0 where
   pub variable : access.variable ≡ one.variable

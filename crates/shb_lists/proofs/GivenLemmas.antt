@@ -1,11 +1,12 @@
 -- The races of a report, given a part at a time.
 use Rattle.std.proofs.Common.{◌≡◌, ℕ, suc, ◌+◌, ◌-◌, ◌<◌, ◌≤◌, inl, inr, Bool, true, false, cond, List, [], ◌∷◌, ◌++◌, length, map, take, drop, get_or, refl, arith, ap, sym, subst, ◌∙◌, append-nil}
 use Rattle.std.proofs.lemmas.List.Sums.{sum_by_more}
-use Rattle.std.specs.Prelude.{All, Option, Some, Contains, flat_map, nat_lt, slice_range, sum_by, ◌↔◌}
+use Rattle.std.specs.Prelude.{All, IfSome, Option, None, Some, Contains, flat_map, nat_lt, slice_range, sum_by, ◌↔◌}
 use Rattle.std.proofs.Math.Seq.{take-add}
 use Rattle.std.proofs.lemmas.Bool.{cases_lt, lt-ltb}
 use Rattle.std.proofs.lemmas.List.{get_or-drop, get_or-map, get_or-take, length-drop, length-map, length-take, take-append-drop, take_all}
 use Rattle.std.proofs.lemmas.List.Elements.{All-contains, All-drop, All-take, Contains-get_or}
+use Rattle.std.proofs.lemmas.List.Sorted.{Contains-permutation, IsPermutation-sym}
 use Rattle.std.proofs.lemmas.Option.{slice_get_within}
 use Rattle.shb_lines.specs.declared.event.Event.{Event}
 use Rattle.shb_lines.specs.declared.event.Pair.{Pair}
@@ -19,9 +20,11 @@ use Rattle.shb_links.proofs.Owners.{variable_sized}
 use Rattle.shb_stamps.specs.Accesses.{races_with}
 use Rattle.shb_stamps.specs.Listed.{ListedTrace, is_listed}
 use Rattle.shb_stamps.specs.Settling.{AreOpen}
-use Rattle.shb_stamps.proofs.FlatMaps.{map_contains}
+use Rattle.shb_stamps.proofs.FlatMaps.{map_contains, map_parts}
 use Rattle.shb_stamps.proofs.ListedLemmas.{contains_listed}
 use Rattle.shb_counts.specs.Accesses.{AreAccesses}
+use Rattle.shb_counts.specs.Runs.{CanAsk}
+use Rattle.shb_counts.specs.declared.accesses.Access.{Access}
 use Rattle.shb_lists.specs.Found.{AreListed, AreVariables, CanBeFound, IsListed, event_of, races_of}
 use Rattle.shb_lists.specs.Given.{AreKnown, HasGiven, HasTurn, racing}
 use Rattle.shb_counts.specs.declared.accesses.Accesses.{Accesses}
@@ -32,7 +35,9 @@ use Rattle.shb_lists.specs.declared.list.Turn.{Turn}
 use Rattle.shb_lists.specs.declared.list.Rest.TheVariants.{Kept, From, Ended}
 use Rattle.shb_lists.proofs.FoundLemmas.{races_append}
 use Rattle.shb_counts.proofs.RaceLists.{below_is_list}
+use Rattle.shb_counts.proofs.ListedLemmas.{list_permuted}
 use Rattle.shb_counts.proofs.ReportPlaces.{races_listed}
+use Rattle.shb_counts.proofs.SliceLemmas.{slice_whole}
 use Rattle.shb_lists.proofs.SortedLemmas.{filter_parts}
 
 -- what was given is a front of the races
@@ -100,6 +105,34 @@ turn_found trace accesses list next to turn le h has = record {
   kept = subst (λ (t : List Event). AreAccesses t h.flags h.numbers accesses) (sym has.of_trace) h.kept;
   each = subst (λ (t : List Event). All (IsListed t h.flags h.numbers) (slice_range list next to)) (sym has.of_trace) (All-take (IsListed trace h.flags h.numbers) (to - next) (drop next list) (All-drop (IsListed trace h.flags h.numbers) next list h.each));
   asked = range_within (λ (access : ListedAccess). is_listed turn.order.events access.event ≡ true) list next turn.to next to (omega arith) le has.within has.asked;
+}
+
+-- an order that can be asked about all accesses can be asked about those that have races
+pub racing_asked : (trace : List Event) (flags : List Bool) (numbers : List ℕ) (variables : ℕ) (accesses : Accesses) (by_event list : List ListedAccess) (events : List ℕ)
+    → AreAccesses trace flags numbers accesses → AreVariables trace variables → AreListed trace flags numbers variables by_event → list ≡ racing by_event
+    → All (λ access. is_listed events access.event ≡ true) accesses.list.items → All (λ access. is_listed events access.event ≡ true) list
+racing_asked trace flags numbers variables accesses by_event list events are within listed is asked k d lt =
+    let access = get_or list k d in
+    let there = (filter_parts (λ (a : ListedAccess). nat_lt 0 a.races) by_event access (subst (λ (l : List ListedAccess). Contains l access) is (Contains-get_or list k d lt))).0 in
+    let opened = subst (λ (l : List ℕ). Contains l access.event) listed.events (map_contains event_of by_event access there) in
+    let one = map_parts (λ (a : Access). a.event) accesses.list.items access.event
+    (Contains-permutation _ _ access.event (IsPermutation-sym _ _ (list_permuted trace flags numbers accesses variables are within)) opened) in
+    subst (λ (e : ℕ). is_listed events e ≡ true) one.2 (All-contains (λ (a : Access). is_listed events a.event ≡ true) accesses.list.items one.0 asked one.1)
+
+pub may_ask : (trace : List Event) (flags : List Bool) (numbers : List ℕ) (variables : ℕ) (accesses : Accesses) (by_event list : List ListedAccess) (order : Option ListedTrace)
+    → AreAccesses trace flags numbers accesses → AreVariables trace variables → AreListed trace flags numbers variables by_event → list ≡ racing by_event
+    → IfSome order (CanAsk trace accesses.list.items) → IfSome order (λ ordered. (ordered.trace ≡ trace) × All (λ access. is_listed ordered.events access.event ≡ true) list)
+may_ask trace flags numbers variables accesses by_event list None are within listed is can = can
+may_ask trace flags numbers variables accesses by_event list (Some order) are within listed is can =
+    (can.of_trace, racing_asked trace flags numbers variables accesses by_event list order.events are within listed is can.asked)
+
+-- such an order serves for a turn of all of them
+pub whole_asked : (trace : List Event) (list : List ListedAccess) (turn : Turn) → turn.to ≡ length list → turn.order.trace ≡ trace
+    → All (λ access. is_listed turn.order.events access.event ≡ true) list → HasTurn trace list 0 turn
+whole_asked trace list turn all of_trace asked = record {
+  within = omega (arith, all);
+  of_trace = of_trace;
+  asked = subst (All (λ (access : ListedAccess). is_listed turn.order.events access.event ≡ true)) (sym (ap (slice_range list 0) all ∙ slice_whole list (length list) (omega arith))) asked;
 }
 
 -- what is left of a turn

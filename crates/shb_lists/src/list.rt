@@ -1,8 +1,9 @@
 //! The races of a report, a part at a time: all at once if they are kept, else those of some accesses after the others.
 
-ghost use Rattle.std.specs.Prelude.{◌≡◌, ◌⊎◌, ◌+◌, ◌<◌, ◌≤◌, ◌↔◌, ℕ, All, List, IfOk, IfSome, IsTrue, length, map, slice_range, sum_by};
+ghost use Rattle.std.specs.Prelude.{◌≡◌, ◌⊎◌, ◌+◌, ◌<◌, ◌≤◌, ◌↔◌, ℕ, All, List, IfOk, IfSome, IsTrue, length, map, slice_range, sum_by, true};
 ghost use Rattle.shb_lines.specs.declared.event.Event.{Event};
 ghost use Rattle.shb_lines.specs.events.Race.{IsRaceList, Race};
+ghost use Rattle.shb_stamps.specs.Listed.{is_listed};
 ghost use Rattle.shb_lists.specs.Found.{event_of, races_of};
 ghost use Rattle.shb_lists.specs.Given.{AreKnown, HasGiven, HasTurn, IsNext, ListsRaces, parts_left, racing};
 ghost use Rattle.shb_lists.specs.Listed.{pair_in};
@@ -117,10 +118,24 @@ fn events_in(alloc: Global, list: &[ListedAccess]) -> Result<Vec<u32>, NoMemory>
     Ok(events)
 }
 
+/// The turn of all accesses of a list, if there is an order that can be asked about them.
+fn whole_turn<'a>(order: Option<ListedRows<'a>>, list: &[ListedAccess]) -> Option<Turn<'a>>
+    ensures { (trace : List Event) → IfSome order.entry (λ ordered. (ordered.trace ≡ trace) × All (λ access. is_listed ordered.events access.event ≡ true) list.now)
+        → IfSome result (HasTurn trace list.now 0) }
+{
+    match order {
+        Some(order) => Some(Turn {
+            order,
+            to: list.len(),
+        }),
+        None => None,
+    }
+}
+
 /// The turn that starts with an access.
 fn turn_at<'a>(
     alloc: Global,
-    settled: &'a Settled<'a>,
+    settled: &Settled<'a>,
     list: &[ListedAccess],
     from: usize,
 ) -> Result<Turn<'a>, NoMemory>
@@ -140,7 +155,7 @@ fn turn_at<'a>(
 /// The turn of an access: the last one, if it isn't over; else the next one, for which the last one is dropped.
 fn turn_from<'a>(
     alloc: Global,
-    settled: &'a Settled<'a>,
+    settled: &Settled<'a>,
     list: &[ListedAccess],
     next: usize,
     last: Option<Turn<'a>>,
@@ -192,7 +207,7 @@ impl<'a> RaceList<'a> {
     pub fn all<R: Threads + Wait + Sync + RandomSource>(
         rt: &R,
         alloc: Global,
-        settled: &Settled<'_>,
+        settled: &Settled<'a>,
         most: u64,
         workers: Workers,
     ) -> Result<RaceList<'a>, NoMemory>
@@ -203,10 +218,11 @@ impl<'a> RaceList<'a> {
             places,
             accesses,
             counts,
-            ..
+            order,
         } = counted_races(rt, alloc, settled, workers)?;
         let by_event = accesses_by_event(alloc, &accesses, counts.as_slice())?;
         let list = with_some(alloc, by_event.as_slice())?;
+        let turn = whole_turn(order, list.as_slice());
         Ok(RaceList {
             count: races,
             places,
@@ -216,7 +232,7 @@ impl<'a> RaceList<'a> {
                     list,
                     most,
                 },
-                turn: None,
+                turn,
                 next: 0,
             },
         })
@@ -231,7 +247,7 @@ impl<'a> RaceList<'a> {
         &mut self,
         rt: &R,
         alloc: Global,
-        settled: &'a Settled<'a>,
+        settled: &Settled<'a>,
         workers: Workers,
     ) -> Result<Option<Vec<ListedRace>>, NoMemory>
         requires { (races given : List (ℕ × ℕ)) × HasGiven (events_of settled.now) races given self.old.rest }

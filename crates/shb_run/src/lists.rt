@@ -34,7 +34,7 @@ fn kept_at_once(events: u32) -> u64
 fn all_races<'a, R: Threads + Wait + Sync + RandomSource>(
     rt: &R,
     alloc: Global,
-    settled: &Settled<'_>,
+    settled: &Settled<'a>,
     workers: Workers,
 ) -> Result<RaceList<'a>, NoMemory>
     ensures { IfOk result (λ list. (races : List (ℕ × ℕ)) × ListedBy AllRaces (trace_of settled.now) races × ListsRaces (events_of settled.now) races (trace_of settled.now) list) }
@@ -77,7 +77,7 @@ fn nearest_list<'a, R: RandomSource>(
 pub(crate) fn races_asked<'a, R: Threads + Wait + Sync + RandomSource>(
     rt: &R,
     alloc: Global,
-    settled: &Settled<'_>,
+    settled: &Settled<'a>,
     choice: Choice,
     workers: Workers,
 ) -> Result<RaceList<'a>, NoMemory>

@@ -96,7 +96,7 @@ fn write_parts<'a, R: Threads + Wait + Sync, K: Sink, P: Gate + Sync, W: Gate + 
     rt: &R,
     alloc: Global,
     writer: &mut BlockWriter<'_, '_, K>,
-    settled: &'a Settled<'a>,
+    settled: &Settled<'a>,
     list: &mut RaceList<'a>,
     plan: &BlockPlan<'_, '_, P, W>,
 ) -> Result<(), WriteError>
@@ -115,7 +115,7 @@ pub(crate) fn write_blocks<'a, R: Threads + Wait + Sync, K: Sink, P: Gate + Sync
     rt: &R,
     alloc: Global,
     sink: &mut K,
-    settled: &'a Settled<'a>,
+    settled: &Settled<'a>,
     list: &mut RaceList<'a>,
     plan: &BlockPlan<'_, '_, P, W>,
 ) -> Result<(), WriteError>

@@ -62,7 +62,7 @@ pub fn write_races<'a, R: Threads + Wait + Sync, K: Sink, P: Gate + Sync, W: Gat
     rt: &R,
     alloc: Global,
     sink: &mut K,
-    settled: &'a Settled<'a>,
+    settled: &Settled<'a>,
     list: &mut RaceList<'a>,
     plan: &BlockPlan<'_, '_, P, W>,
 ) -> Result<(), WriteError>
