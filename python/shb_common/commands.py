@@ -45,15 +45,27 @@ class Help(argparse.Action):
 class Parser(argparse.ArgumentParser):
     """The words of a command: what it is about, its options, and notes. Wrong words end it with `status`."""
 
-    def __init__(self, command, about, notes, status=3, **more):
-        super().__init__(prog=command, formatter_class=argparse.RawDescriptionHelpFormatter,
+    def __init__(self, command, about, notes, status=3, usage=None):
+        super().__init__(prog=command, formatter_class=argparse.RawDescriptionHelpFormatter, usage=usage,
                          # what is short for one option today may be for another tomorrow
-                         allow_abbrev=False, add_help=False, **more)
+                         allow_abbrev=False, add_help=False)
         self.about, self.notes, self.status = about, notes, status
         # as clap has them in the help of `shb`, and as help2man reads them
         self._positionals.title, self._optionals.title = "Arguments", "Options"
         self.add_argument("-h", action=Help, nargs=0, help="print the options in short and exit")
         self.add_argument("--help", action="help", help="print this text and exit")
+
+    def add(self, options, exclusive=(), **more):
+        """Adds the options and arguments of a text: of each the name, that of its value if it has one, a
+        colon and what --help says. At most one of the exclusive ones may be given; `more` is what else
+        `add_argument` is told, by the names of values."""
+        import re  # as argparse has already
+        group = exclusive and self.add_mutually_exclusive_group()
+        for name, value, said in re.findall(r"^(\S+?)(?: (\S+))?: (.*(?:\n  .*)*)", options, re.M):
+            place = name.strip("-").replace("-", "_").lower()
+            how = {"metavar": value or name} if value or name.isupper() else {"action": "store_true"}
+            (group if place in exclusive else self).add_argument(
+                place if name.isupper() else name, help=" ".join(said.split()), **{**how, **more.get(place, {})})
 
     def format_help(self):
         notes = f"{self.notes.rstrip()}\n\nshb {installed()}\n" if installed() else self.notes

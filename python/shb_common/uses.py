@@ -11,20 +11,21 @@ from shb_common.words import printable
 BEGIN = b"shb-uses 3\n"
 OTHER = "is of another version of shb: its first line isn't `shb-uses 3`"
 WORDS = b"r", b"w", b"l", b"a", b"f", b"R", b"W"
-OF_STACKS = b"bare", b"held", b"many"
-KINDS = b"by", b"under", b"reading", *OF_STACKS
+SUMS = "by under reading bare held many"  # by thread, by lock, and by the number of a stack
+NUMBERED = "bare", "held", "many"
 
 
-class Use(collections.namedtuple("Use", "word variable local location sums is_wide")):
+class Use(collections.namedtuple("Use", f"word variable local location is_wide {SUMS}")):
     """The accesses of a variable at a location in one way: `word` is r, w, l (loaded atomically), a (written
-    atomically) or f (freed); `local` the local that a variable on a stack was then, or nothing. `sums` has
-    by kind how many there are of each thread, lock or stack (by its number). `is_wide`: whether they are of
-    more than eight bytes, or None if that isn't known."""
+    atomically) or f (freed); `local` the local that a variable on a stack was then, or nothing. `is_wide`:
+    whether they are of more than eight bytes, or None if that isn't known. Then how many there are: by each
+    thread, under each lock, under it for reading, and of each stack without a lock, with one, or with too
+    many to be counted."""
 
     __slots__ = ()
 
     def count(self):
-        return sum(self.sums[b"by"].values())
+        return sum(self.by.values())
 
 
 class BadUses(Exception):
@@ -61,10 +62,11 @@ class Uses:
             counts = sums[1::3]
             if word not in WORDS or len(sums) % 3 or counts and not b"".join(counts).isdigit():
                 raise ValueError
-            its = {kind: {} for kind in KINDS}
+            its = {kind: {} for kind in SUMS.split()}
             for kind, count, of in zip(sums[::3], map(int, counts), sums[2::3]):
-                its[kind][int(of) if kind in OF_STACKS else of] = count
-            self.uses.append(Use(word.lower(), variable, local, location, its, word.isupper()))
+                kind = kind.decode()
+                its[kind][int(of) if kind in NUMBERED else of] = count
+            self.uses.append(Use(word.lower(), variable, local, location, word.isupper(), **its))
         elif kind == b"event":
             in_page, in_run = map(whole, fields[1:])
             self.events[in_run], self.in_run[in_page] = in_page, in_run

@@ -66,31 +66,28 @@ Exit status:
 Environment:
   SHB  the program to run, if not the one that came with this command
 """
+OPTIONS = """\
+--known FILE: places to skip
+--fail-on-stale: end with status 1 if a line of --known matched nothing
+--links: follow links that lead out of TRACES
+--source DIR: the repository: places.sarif names its files if it finds them
+--engine NAME: xargs: this machine (the default); slurm: a job array on a cluster whose nodes see the same folders
+--jobs N: with xargs: traces at once (as many as processors)
+--memory MIB: memory of a trace (%(default)s)
+--seconds N: processor time of a trace (%(default)s)
+--size MIB: most of a report, and of the text of a packed trace (%(default)s)
+--sbatch WORDS: with slurm: further words for sbatch
+TRACES: the folder of the traces
+OUT: the folder for outcomes and tables
+"""
 
 
 def arguments(words):
-    parser = Parser("shb-farm", ABOUT, NOTES, usage="shb-farm [OPTION].. TRACES OUT")
-    parser.add_argument("--known", metavar="FILE", help="places to skip")
-    parser.add_argument("--fail-on-stale", action="store_true",
-                        help="end with status 1 if a line of --known matched nothing")
-    parser.add_argument("--links", action="store_true", help="follow links that lead out of TRACES")
-    parser.add_argument("--source", metavar="DIR",
-                        help="the repository: places.sarif names its files if it finds them")
-    parser.add_argument("--engine", choices=sorted(engines.ENGINES), default="xargs",
-                        help="xargs: this machine (the default); slurm: a job array on a cluster whose nodes "
-                             "see the same folders")
-    parser.add_argument("--jobs", metavar="N", type=number(1), default=len(os.sched_getaffinity(0)),
-                        help="with xargs: traces at once (as many as processors)")
-    parser.add_argument("--memory", metavar="MIB", type=number(1), default=1024,
-                        help="memory of a trace (%(default)s)")
-    parser.add_argument("--seconds", metavar="N", type=number(1), default=3600,
-                        help="processor time of a trace (%(default)s)")
-    parser.add_argument("--size", metavar="MIB", type=number(1), default=1024,
-                        help="most of a report, and of the text of a packed trace (%(default)s)")
-    parser.add_argument("--sbatch", metavar="WORDS", type=shell_words, default=[],
-                        help="with slurm: further words for sbatch")
-    parser.add_argument("traces", metavar="TRACES", help="the folder of the traces")
-    parser.add_argument("out", metavar="OUT", help="the folder for outcomes and tables")
+    parser, least = Parser("shb-farm", ABOUT, NOTES, usage="shb-farm [OPTION].. TRACES OUT"), number(1)
+    parser.add(OPTIONS, engine={"choices": sorted(engines.ENGINES), "default": "xargs", "metavar": None},
+               jobs={"type": least, "default": len(os.sched_getaffinity(0))},
+               memory={"type": least, "default": 1024}, seconds={"type": least, "default": 3600},
+               size={"type": least, "default": 1024}, sbatch={"type": shell_words, "default": []})
     return parser.parsed(joined(words))
 
 

@@ -28,13 +28,15 @@ STATUS = """\
 Exit status: 0 nothing was repaired; 1 the trace was repaired; 2 it is no trace: no line is an
 event, or it is a report, or packed; nothing was written; 3 wrong command line; 4 a file can't
 be read or written."""
+OPTIONS = """\
+--quiet: don't list the repairs, only how many there are
+TRACE: a trace; standard input if none is named
+"""
 
 
 def arguments(words):
     parser = Parser("shb-fix", ABOUT, STATUS)
-    parser.add_argument("--quiet", action="store_true",
-                        help="don't list the repairs, only how many there are")
-    parser.add_argument("trace", metavar="TRACE", nargs="?", help="a trace; standard input if none is named")
+    parser.add(OPTIONS, trace={"nargs": "?"})
     return parser.parsed(words)
 
 

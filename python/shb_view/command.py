@@ -25,27 +25,24 @@ can't be read or written; 3 wrong command line; 4 the file of --stacks is damage
 SHB=PROGRAM names another `shb`.
 
 A place is a pair of locations that race, that of the first access and that of the second."""
+OPTIONS = """\
+--html PAGE: write a page to this file, not text to standard output
+--text: beside the page, write the text too
+--title TEXT: the title, if it isn't to be the trace's name
+--source DIR: show lines of the source files below this folder; may be given again
+--all: in the text, add a race of each group and what comes before it
+--json FILE: write the places to this file, for programs (docs/FORMATS.md has the form)
+--stacks FILE: show call stacks and names of locals, as `shb-std --stacks` wrote them
+--recorded-source: show lines of the source files that the file of --stacks names
+--shb PROGRAM: the `shb` to run
+TRACE: a trace, as `shb` reads it
+"""
 
 
 def arguments(words, program):
     parser = Parser("shb-view", ABOUT, STATUS, usage="shb-view [OPTION].. TRACE")
-    parser.add_argument("--html", metavar="PAGE",
-                        help="write a page to this file, not text to standard output")
-    parser.add_argument("--text", action="store_true", help="beside the page, write the text too")
-    parser.add_argument("--title", metavar="TEXT", help="the title, if it isn't to be the trace's name")
-    parser.add_argument("--source", metavar="DIR", action="append", default=[],
-                        help="show lines of the source files below this folder; may be given again")
-    parser.add_argument("--all", action="store_true",
-                        help="in the text, add a race of each group and what comes before it")
-    parser.add_argument("--json", metavar="FILE",
-                        help="write the places to this file, for programs (docs/FORMATS.md has the form)")
-    parser.add_argument("--stacks", metavar="FILE",
-                        help="show call stacks and names of locals, as `shb-std --stacks` wrote them")
-    parser.add_argument("--recorded-source", action="store_true",
-                        help="show lines of the source files that the file of --stacks names")
-    parser.add_argument("--shb", metavar="PROGRAM", default=os.environ.get("SHB") or program,
-                        help="the `shb` to run")
-    parser.add_argument("trace", metavar="TRACE", help="a trace, as `shb` reads it")
+    parser.add(OPTIONS, source={"action": "append", "default": []},
+               shb={"default": os.environ.get("SHB") or program})
     return parser.parsed(words)
 
 

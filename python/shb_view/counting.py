@@ -6,10 +6,9 @@ import bisect
 import collections
 import re
 
-from shb_common.uses import OF_STACKS
 from shb_common.variables import without_end
 from shb_common.words import Refused
-from shb_view.facts import HOW_HELD, READS, Used, add_to, used_in
+from shb_view.facts import READS, Used, renamed, used_in
 from shb_view.groups import name_parts
 from shb_view.held import Held, Operations, called
 from shb_view.trace import CHANGED, OPENS
@@ -262,23 +261,15 @@ class Counting:
         kinds.loads = loads - reads
         groups = {kinds.in_trace(variable): group for variable, group in self.groups.items()}
         for use in self.uses:
-            word, variable, local, location, sums, _ = use
+            word, variable, local, location, *_ = use
             group = groups.get(variable)
             if group is None or kinds.locals.get(variable, local) != local and variable.startswith(b"stack."):
                 continue
-            for kind in OF_STACKS:
-                for stack, count in sums[kind].items():
-                    self.callers[variable, location][stack, kind == b"bare"] += count
-            use = use._replace(sums=with_names(sums, kinds.locks)) if kinds.locks else use
+            for sums, is_bare in ((use.bare, True), (use.held, False), (use.many, False)):
+                for stack, count in sums.items():
+                    self.callers[variable, location][stack, is_bare] += count
+            use = use._replace(under=renamed(use.under, kinds.locks), reading=renamed(use.reading, kinds.locks))
             if word != b"f":
                 self.used[group].add(use)
             elif freed.setdefault((group, location, name_parts(variable)["block"]), variable) == variable:
                 self.used[group].add(use._replace(variable=b""))
-
-
-def with_names(sums, locals):
-    """The sums of a use, with the names of locks on stacks."""
-    named = {kind: collections.defaultdict(int) for kind in HOW_HELD}
-    for kind, its in named.items():
-        add_to(its, sums[kind], locals)
-    return {**sums, **named}

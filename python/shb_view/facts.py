@@ -8,7 +8,7 @@ import itertools
 import re
 
 from shb_common.result import text
-from shb_common.uses import KINDS, Use
+from shb_common.uses import Use
 from shb_common.words import counted
 from shb_view.groups import name_parts
 from shb_view.held import read_lock
@@ -22,7 +22,6 @@ FREED = "don't use it at {} once it may be freed at {}, or free it after that us
 STEP = "test and set it in one step, as by an atomic exchange, or "
 OF_LIBRARY = rb"(?:^|[.:])_[_A-Z]|\._vptr|\.so(?:\.[0-9]+)*:"  # what the program can't make atomic
 DIGITS = rb"[0-9]+"
-HOW_HELD = b"under", b"reading"  # how an access holds locks
 READS = b"l", b"r"
 NUMBERS = rb"(?<=#)[0-9]+|(?<=\[)[0-9]+(?=\])"  # of a block, and of an element
 
@@ -43,27 +42,28 @@ class Site:
     """A line that uses the variables, with what is counted there."""
 
     def __init__(self, location):
-        self.location, self.total, self.variables = location, 0, set()
-        self.accesses = collections.defaultdict(int)  # by word
-        self.widths = set()  # of its accesses, as `Use.is_wide`
-        self.threads = collections.defaultdict(int)
-        self.writers = set()  # threads
-        self.locks = collections.defaultdict(int)  # how many accesses hold each lock, but not for reading
-        self.reading = collections.defaultdict(int)  # how many hold it for reading
-        self.wrong = collections.defaultdict(int)  # how many of these write
-        self.bare = 0  # accesses that hold no lock
-        self.unknown = 0  # accesses whose locks aren't counted
-        self.partners = set()  # the lines that it races with
-        self.later = set()  # those of these whose access came later in a race that was read
+        self.location, self.total = location, 0
+        # how many accesses there are of each word and thread, how many hold each lock, but not for reading,
+        # how many hold it for reading, and how many of these write
+        self.accesses, self.threads, self.locks, self.reading, self.wrong = (
+            collections.Counter() for _ in range(5))
+        self.bare = self.unknown = 0  # accesses that hold no lock, and whose locks aren't counted
+        # `widths` of its accesses, as `Use.is_wide`; `writers` are threads, `partners` the lines that it
+        # races with, `later` those of these whose access came later in a race that was read
+        self.variables, self.widths, self.writers, self.partners, self.later = (set() for _ in range(5))
+
+    @property
+    def frees(self):
+        return self.accesses[b"f"]
 
     def reads(self):
-        return self.accesses[b"r"] + self.accesses[b"l"] > 0
+        return not self.accesses.keys().isdisjoint(READS)
 
     def writes(self):
-        return self.total > self.accesses[b"r"] + self.accesses[b"l"]
+        return not self.accesses.keys() <= set(READS)
 
     def is_atomic(self):
-        return self.accesses[b"a"] + self.accesses[b"l"] > 0
+        return not self.accesses.keys().isdisjoint((b"a", b"l"))
 
     def fills(self):
         """Whether it seems to fill new blocks: it writes each variable once, and doesn't race."""
@@ -73,9 +73,8 @@ class Site:
     @functools.cached_property
     def guards(self):
         """How many accesses hold each lock as they have to: a read under a read lock does."""
-        found = dict(self.locks)
-        for lock, count in self.reading.items():
-            found[lock] = found.get(lock, 0) + count - self.wrong[lock]
+        found = self.locks + self.reading
+        found.subtract(self.wrong)
         return found
 
     @functools.cached_property
@@ -86,12 +85,9 @@ class Site:
             found.setdefault(re.sub(DIGITS, b"", lock), []).append(count)
         return found
 
-    def guarded(self, lock):
-        return self.guards.get(lock, 0)
-
     def lacks(self, lock):
         """Whether some access doesn't hold the lock as it has to."""
-        return self.guarded(lock) < self.total
+        return self.guards[lock] < self.total
 
     @functools.cached_property
     def held(self):
@@ -99,28 +95,29 @@ class Site:
 
     def add(self, use, names):
         """Takes a use; `names` has the locks that have another name here."""
-        by, count = use.sums[b"by"], use.count()
+        under, reading = renamed(use.under, names), renamed(use.reading, names)
         self.variables.add(use.variable)
-        self.total += count
-        self.accesses[use.word] += count
+        self.total += use.count()
+        self.accesses[use.word] += use.count()
         self.widths.add(use.is_wide)
-        add_to(self.threads, by, {})
-        add_to(self.locks, use.sums[b"under"], names)
-        add_to(self.reading, use.sums[b"reading"], names)
+        self.threads.update(use.by)
+        self.locks.update(under)
+        self.reading.update(reading)
         if use.word not in READS:
-            self.writers.update(by)
-            add_to(self.wrong, use.sums[b"reading"], names)
-        self.bare += sum(use.sums[b"bare"].values())
-        self.unknown += sum(use.sums[b"many"].values())
+            self.writers.update(use.by)
+            self.wrong.update(reading)
+        self.bare += sum(use.bare.values())
+        self.unknown += sum(use.many.values())
 
 
-def add_to(sums, others, names):
-    """Adds further sums; `names` has what has another name here."""
-    if not sums and names.keys().isdisjoint(others):
-        sums.update(others)  # all at once
-        return
-    for key, count in others.items():
-        sums[names.get(key, key)] += count
+def renamed(sums, names):
+    """Sums of locks, some of which have other names here."""
+    if names.keys().isdisjoint(sums):
+        return sums
+    found = collections.Counter()
+    for lock, count in sums.items():
+        found[names.get(lock, lock)] += count
+    return found
 
 
 class Fact(collections.namedtuple("Fact", "form said tag sentences remedy lock handed parts",
@@ -186,15 +183,13 @@ def used_in(counts):
     counted."""
     found = Used()
     for (location, thread, word, locks, variable), count in counts.items():
-        sums = {kind: {} for kind in KINDS}
-        sums[b"by"][thread] = count
-        if not locks:
-            sums[b"many" if locks is None else b"bare"][0] = count
+        under, reading = {}, {}
         for lock in locks or ():
             shared = read_lock(lock)
-            sums[b"reading" if shared else b"under"][shared or lock] = count
+            (reading if shared else under)[shared or lock] = count
+        bare, many = {0: count} if locks == () else {}, {0: count} if locks is None else {}
         if count:
-            found.add(Use(word, variable, b"", location, sums, None))
+            found.add(Use(word, variable, b"", location, None, {thread: count}, under, reading, bare, {}, many))
     return found
 
 
@@ -220,8 +215,7 @@ class Locks:
         self.own, self.private, self.name, self.word, self.others = {}, private, name, word, others
         self.has_global = any(b"#" not in it and not it.startswith(b"stack.") for it in used.variables)
         of_frees = [*itertools.chain(*used.frees.values())]
-        self.locks = {variable: set().union(*(use.sums[how] for use in (*its, *of_frees) for how in HOW_HELD))
-                      for variable, its in used.variables.items()}
+        self.locks = {variable: held_in([*its, *of_frees]).keys() for variable, its in used.variables.items()}
         held = [(not is_member(lock, name(variable)), -count, variable, lock)
                 for variable, its in used.variables.items()
                 for lock, count in held_in(its).items()] if len(self.locks) > 1 else []
@@ -245,9 +239,10 @@ class Locks:
 
 def held_in(uses):
     """How many accesses hold each lock, for reading or not."""
-    found = collections.defaultdict(int)
-    for sums in (use.sums[how] for use in uses for how in HOW_HELD):
-        add_to(found, sums, {})
+    found = collections.Counter()
+    for use in uses:
+        found.update(use.under)
+        found.update(use.reading)
     return found
 
 
@@ -276,7 +271,7 @@ def fact_of(sites, locks, whole, published=()):
     """The first fact that holds. `whole` is a trace or a run, `published` as `handed.published` has it."""
     racing = [site for site in sites if site.partners]
     # a line that frees alone says nothing of locks
-    used = [site for site in sites if site.accesses[b"f"] < site.total]
+    used = [site for site in sites if site.frees < site.total]
     of_locks = uncounted(used) if any(site.unknown for site in used) else lock_fact(used, racing, locks)
     if of_locks and of_locks.form == "without" and any(pair.store.kind == b"update" for pair, _ in published):
         published = ()  # beside a lock what is updated is a counter
@@ -337,7 +332,7 @@ def handed_words(pair):
 def freed_under_lock(sites, racing, locks):
     """Racing lines without a lock that all other lines hold: a free is a use of each variable of the block.
     A lock that each free holds comes first, then one that none does."""
-    frees = [site for site in racing if site.accesses[b"f"]]
+    frees = [site for site in racing if site.frees]
     if not frees or any(site.unknown for site in sites):
         return None
     lacking = {lock: sum(site.lacks(lock) for site in frees) for lock in by_weight(sites, locks)[0]
@@ -359,13 +354,13 @@ def freed_under_lock(sites, racing, locks):
 
 def used_after(racing, frees):
     """Racing lines with a use that came after a free in a race that was read."""
-    found = set().union(*(site.later for site in frees if site.accesses[b"f"] == site.total))
-    return [site for site in racing if site.location in found and not site.accesses[b"f"]]
+    found = set().union(*(site.later for site in frees if site.frees == site.total))
+    return [site for site in racing if site.location in found and not site.frees]
 
 
 def freed(racing):
     """Racing lines that free the block which the others use."""
-    frees = [site for site in racing if site.accesses[b"f"]]
+    frees = [site for site in racing if site.frees]
     if not frees:
         return None
     used = dict.fromkeys(partner for site in frees
@@ -462,9 +457,9 @@ def without(sites, racing, lock, locks):
     scope = scope_of([site for site in sites if site.lacks(lock) and not site.partners], lacking, holding)
     who = {"writes": "every write", "reads": "every read", "all": "every other access",
            "lines": worded("every access at {}", holding)}[scope]
-    some = [site for site in lacking if site.guarded(lock)]
+    some = [site for site in lacking if site.guards[lock]]
     name, verb, total = lock_name(lock), verb_of(lacking), sum(site.total for site in lacking)
-    at = f" at {total - sum(site.guarded(lock) for site in lacking):,} of {total:,} accesses" if some else ""
+    at = f" at {total - sum(site.guards[lock] for site in lacking):,} of {total:,} accesses" if some else ""
     sentence = worded("{} holds {}, and {} {} without it{}.", who, name, lacking, verb, at)
     instead = [worded("{} holds {}", place(site.location), held_at(site)) for site in lacking if site.held]
     if instead:
@@ -509,10 +504,10 @@ def is_rule(lacking, holding, variables, lock, is_member):
         return False
     if not is_member and not any(site.writes() for site in holding) and any(site.reads() for site in lacking):
         return False
-    if any(site.guarded(lock) and holds_another(site, lock) for site in lacking):
+    if any(site.guards[lock] and holds_another(site, lock) for site in lacking):
         return False
     is_bare = all(site.bare == site.total for site in lacking)
-    return is_bare or any(site.guarded(lock) for site in lacking) or len(holding) > len(lacking)
+    return is_bare or any(site.guards[lock] for site in lacking) or len(holding) > len(lacking)
 
 
 def scope_of(others, lacking, holding):
@@ -524,7 +519,7 @@ def scope_of(others, lacking, holding):
 
 
 def verb_of(sites):
-    verb = ("free" if all(site.accesses[b"f"] == site.total for site in sites)
+    verb = ("free" if all(site.frees == site.total for site in sites)
             else "read" if not any(site.writes() for site in sites)
             else "write" if not any(site.reads() for site in sites) else "use")
     return does(verb, sites) + " it" * (verb in ("free", "use"))
@@ -537,12 +532,12 @@ def does(verb, its):
 def sometimes(sites, racing, lock, locks):
     """A lock that racing lines hold at most of their accesses with a lock, and no line at each."""
     some = [site for site in racing if site.lacks(lock) and site.writes() and not holds_another(site, lock)
-            and site.guarded(lock) * 2 > site.total - site.bare]
+            and site.guards[lock] * 2 > site.total - site.bare]
     if not some:
         return None
-    counts = [[f"{site.guarded(lock):,} of {counted(site.total, 'access', 'accesses')} at ",
+    counts = [[f"{site.guards[lock]:,} of {counted(site.total, 'access', 'accesses')} at ",
                place(site.location)] for site in some]
-    lines = {text(site.location or b""): [site.guarded(lock), site.total] for site in some}
+    lines = {text(site.location or b""): [site.guards[lock], site.total] for site in some}
     name = lock_name(lock)
     return Fact("sometimes", {"lines": lines, **said_of(lock, locks)},
                 worded("{}{}{}", some, not_always(some), name),

@@ -77,7 +77,7 @@ def moves_of(found, counting, are_posts):
     if each has its own: by that a thread may hand on what the line still uses. All are posts, or not all."""
     locks, stacks, names = counting.access_kinds.locks, counting.access_kinds.stacks, found.group.names
     for site in found.sites:
-        if not site.partners or site.accesses[b"f"] or site.is_atomic() or site.bare < site.total:
+        if not site.partners or site.frees or site.is_atomic() or site.bare < site.total:
             continue
         follows = {(word, name): counting.follows.get((word, name, site.location), {})
                    for name in names for word in (b"r", b"w")}
@@ -161,8 +161,8 @@ def family_of(pairs, begins):
 
 def uses_once(used, thread, may_write=True):
     """Whether a thread uses each variable once at most."""
-    own = [[use for use in its if thread in use.sums[b"by"]] for its in used.variables.values()]
-    return (all(sum(use.sums[b"by"][thread] for use in its) <= 1 for its in own)
+    own = [[use for use in its if thread in use.by] for its in used.variables.values()]
+    return (all(sum(use.by[thread] for use in its) <= 1 for its in own)
             and (may_write or all(use.word in READS for its in own for use in its)))
 
 

@@ -157,7 +157,7 @@ def notes_of(view):
 def seen_parts(section):
     """What is said where the second access of a race reads what the first wrote, as parts for each such line
     and what it did."""
-    frees = {site.location for site in section.sites if site.accesses[b"f"]}
+    frees = {site.location for site in section.sites if site.frees}
     readers = {}
     for writer, reader in section.seen:
         readers.setdefault((reader, "freed" if writer in frees else "wrote"), []).append([place(writer)])

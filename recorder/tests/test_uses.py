@@ -116,9 +116,9 @@ class Uses(recorder.Case):
         path, line = self.folder / "uses", "use\tr\tx\t\ta.c:1\tby\t1\tT1\tbare\t1\t0\n"
         path.write_text(f"shb-uses 3\n{line}events\t0\n")
         [use] = files.Uses(path).uses
-        sums = {kind: its for kind, its in use.sums.items() if its}
+        sums = {kind: getattr(use, kind) for kind in files.SUMS.split() if getattr(use, kind)}
         self.assertEqual(use[:4], (b"r", b"x", b"", b"a.c:1"))
-        self.assertEqual(sums, {b"by": {b"T1": 1}, b"bare": {0: 1}})
+        self.assertEqual(sums, {"by": {b"T1": 1}, "bare": {0: 1}})
         for text, said in ((f"{line}events\t0\n", "is of another version"),
                            ("shb-uses 2\n", "is of another version"), ("", "is of another version"),
                            *((f"shb-uses 3\n{line.replace(*change)}events\t0\n", "is damaged in line 2")
