@@ -90,8 +90,8 @@ def run_here(words, **more):
     words, shb = [str(word) for word in words], os.environ.get("SHB") or program.PATH
     with contextlib.redirect_stdout(out), contextlib.redirect_stderr(err):
         of_run = view.RecordedRun(*[None] * 5, **more)
-        with mock.patch("shb_view.command.make_view", lambda *words: view.with_run(
-            view.make_view(*words), of_run)) if more else contextlib.nullcontext():
+        with mock.patch("shb_view.command.make_view",
+                        lambda *words: view.make_view(*words, of_run)) if more else contextlib.nullcontext():
             status = command.main(words, shb)
     out.flush()
     return status, out.buffer.getvalue().decode(), err.getvalue()

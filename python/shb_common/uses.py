@@ -33,17 +33,21 @@ class BadUses(Exception):
 
 
 class Uses:
-    """`events` has for an event of the run that of the page's trace, and `in_run` the other way; `count` is
+    """Nothing without a path. `events` has for an event of the run that of the page's trace, and `in_run` the other way; `count` is
     how many that trace has. `parts` are those of its events before which some of the run may be missing;
     `repeated` are those that stand for repeats before them, `once` those of these behind the first release of
     their thread at its place; `sights` are a variable, and where it was written
     and then read by another thread, in the run. `are_sets_apart`: whether the recorder told all sets of held
     locks apart."""
 
-    def __init__(self, path):
+    def __init__(self, path=None):
         self.uses, self.events, self.in_run, self.parts, self.count = [], {}, {}, [], None
         self.repeated, self.once, self.sights = set(), set(), set()
         self.are_sets_apart = True
+        if path:
+            self.read(path)
+
+    def read(self, path):
         with open_regular(path) as file:
             if file.readline(len(BEGIN)) != BEGIN:
                 raise BadUses(OTHER)

@@ -100,7 +100,7 @@ def arguments(words):
     found.words = found.program[1:] if found.program[:1] == ["--"] else found.program
     if not found.words:
         parser.error("no program is named")
-    found.program, *found.arguments = found.words
+    found.program = found.words[0]
     if found.join and not found.folder:
         parser.error("--join: -o DIR, before the folders, names that of the joined results")
     found.folder = os.path.abspath(found.folder or os.path.basename(found.program) + ".shb")
@@ -166,8 +166,7 @@ def check_program(name):
 
 def record(options):
     """Runs the program, looks at its runs, and says what was found. Returns the status."""
-    results = Results(options.folder, shlex.join([options.program, *options.arguments]).replace("\n", "\\n"),
-                      options.replay)
+    results = Results(options.folder, shlex.join(options.words).replace("\n", "\\n"), options.replay)
     if options.replay:
         with open(f"{results.work}/{REPLAYED}", "wb") as file:
             file.write(options.turns.content)
@@ -246,13 +245,14 @@ def status_of(look, rows):
 
 
 def conclude(look, rows, status):
+    options, folder = look.options, look.results.folder
     unknown, passed_over, behind = map(counts(rows).get, ("unknown", "known", "behind"))
     for words in known.words_of_stale(look.stale(), look.places.names):
-        say(f"{look.options.known_path}, {words}")
+        say(f"{options.known_path}, {words}")
     for first, second in itertools.islice(look.passed_over, MOST_PASSED):
         say(f"{printable(second)} read what {printable(first)} wrote, a known race: a second look left it "
             "out")
-    shown = (counted(unknown, "unknown place" if look.options.known_path else "place") + " with races"
+    shown = (counted(unknown, "unknown place" if options.known_path else "place") + " with races"
              + (f" ({'' if behind == unknown else f'{behind:,} of them '}behind known races: real if these "
                 "are harmless)" if behind else "")
              + (f", {counted(passed_over, 'known one')} skipped" if passed_over else ""))
@@ -260,21 +260,21 @@ def conclude(look, rows, status):
     say("; ".join([shown] * bool(rows or not look.unshown) + [unshown] * bool(look.unshown))
         + ("; not the whole of the run was seen" if look.is_cut or look.is_killed else "")
         + ("; not all could be looked at" if look.has_failed else "")
-        + f"; the program's own status: {look.own}; files in {look.results.folder}")
+        + f"; the program's own status: {look.own}; files in {folder}")
     for line in dict.fromkeys([*look.counts(), *look.verified(), *look.notes, *look.meaning()]):
         say(line)
     if len(look.runs) > 1:
         orders = {tuple(sorted(orders)) for orders in look.runs}
         say(f"{counted(len(look.runs), 'run')} gave {counted(len(orders), 'different interleaving')}")
-    if look.again and look.options.runs > 1 and not look.options.replay:
-        words = ["shb-record", "--replay", str(look.again), look.options.program, *look.options.arguments]
+    if look.again and options.runs > 1 and not options.replay:
+        words = ["shb-record", "--replay", look.again, *options.words]
         say(f"the first run with such a place again: {shlex.join(words)}")
     if look.pages:
-        more = f" and {len(look.pages) - 1:,} more; the bugs of all: " if len(look.pages) > 1 else ""
-        say(f"{'pages' if more else 'page'}: {look.pages[0]}{more}"
-            + f"{look.results.folder}/index.html" * bool(more))
+        first, *more = look.pages
+        say(f"pages: {first} and {len(more):,} more; the bugs of all: {folder}/index.html" if more
+            else f"page: {first}")
     if status == STALE:
-        say(f"status {STALE}: {counted(len(look.stale()), 'line')} of {look.options.known_path} matched no "
+        say(f"status {STALE}: {counted(len(look.stale()), 'line')} of {options.known_path} matched no "
             f"race of {'this run' if len(look.runs) == 1 else 'these runs'}; --runs N with a greater N may "
             "find one")
 

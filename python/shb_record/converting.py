@@ -94,43 +94,32 @@ def check_room(process, most_events):
     needed = min(os.path.getsize(process.record) // 2, most_events * LINE_BYTES)
     free = shutil.disk_usage(process.record).free
     if needed > free:
-        raise Refused(f"{process.name}: its page may take about {needed:,} bytes of the disk, and {free:,} "
-                      "are free; --window makes a smaller one")
+        raise Refused(f"its page may take about {needed:,} bytes of the disk, and {free:,} are free; --window "
+                      "makes a smaller one")
 
 
 class Contradiction(Refused):
     """A check failed: the parts of this command don't fit each other."""
 
 
-class Listing:
-    """A running `shb places --list`, which reads from a pipe and writes to the open file `text`. `descriptor`
-    is where the trace is to be written, unless it comes from an open `pipe`; it ends when whoever was started
-    with it has ended, and `begun` was called."""
+class Listing(Run):
+    """A running `shb places --list`, which reads an open pipe, or PIPE, and writes to the open file `text`."""
 
-    def __init__(self, text, pipe=None):
+    def __init__(self, text, pipe):
+        super().__init__([ANALYSER, *LIST_VARIABLES], pipe, text, **apart())
         self.text = text
         self.races, self.counts = [], None  # of the run, when all is read, as a `Report` has them
-        self.descriptor = None
-        if not pipe:
-            reading, self.descriptor = os.pipe()
-            pipe = open(reading, "rb")
-        with pipe:
-            self.run = Run([ANALYSER, *LIST_VARIABLES], pipe, self.text, **apart())
-
-    def begun(self):
-        os.close(self.descriptor)
-        self.descriptor = None
+        if pipe != PIPE:
+            pipe.close()  # now its reader's alone
 
     def close(self):
         """Ends what still runs, and lets go of what it wrote."""
-        if self.descriptor is not None:
-            self.begun()
-        self.run.close()
+        super().close()
         self.text.close()
 
     def places(self):
         """The places of the run, with their variables, when all is read."""
-        answer = self.run.answer()
+        answer = self.answer()
         if answer.status:
             raise Refused(f"`shb places --list` ended with status {answer.status}: {answer.words}")
         self.text.seek(0)
@@ -172,25 +161,24 @@ class Conversion:
 
     def find(self, choose):
         """Finds the places of the run. The page's trace then has those that `choose` returns of them."""
-        with self.listing() as listed, contextlib.ExitStack() as opened:
+        with contextlib.ExitStack() as opened:
             pipes = [os.pipe() for _ in range(MOST_FINER)]
             finer = [opened.enter_context(open(reading, "rb")) for reading, _ in pipes]
             writing = [number for _, number in pipes]
             words = [*self.words, *(f"--finer={number}" for number in writing)]
-            ran = opened.enter_context(Run(words, PIPE, listed.descriptor, pass_fds=writing, **apart()))
-            listed.begun()
+            ran = opened.enter_context(Run(words, PIPE, PIPE, pass_fds=writing, **apart()))
             for number in writing:
                 os.close(number)
             chosen, fault = [], None
             try:
-                self.take_places(listed, ran, finer)
+                self.take_places(ran, finer)
                 chosen = choose(self.process, self.places)
             except Refused as its:
                 fault = its
             ran.give(lines_of(chosen))
             answer = ran.answer()
             if fault and answer.status in (0, NOT_WHOLE, -signal.SIGPIPE):
-                raise type(fault)(f"{self.process.name}: {fault}")
+                raise fault
             self.end(answer)
         if self.is_verified:
             self.verify()
@@ -201,9 +189,8 @@ class Conversion:
         """Finds the races again, in a trace that omits nothing and has no bundles: they are the same. Of a
         place with more variables than are kept these aren't compared."""
         words = [self.words[0], "-a", *self.list_words[1:]]
-        with contextlib.closing(Listing(open(self.process.beside(".verified"), "w+b"))) as listed, \
-                Run(words, None, listed.descriptor, **apart()) as ran:
-            listed.begun()
+        with Run(words, None, PIPE, **apart()) as ran, \
+                Listing(open(self.process.beside(".verified"), "w+b"), ran.out) as listed:
             again = listed.places()
             self.said(ran.answer())
         found, wanted = ({(place.first, place.second, name) for place in its
@@ -212,27 +199,24 @@ class Conversion:
         differ = sorted(found ^ wanted)
         for first, second, name in differ[:1]:
             where = "that omits nothing" if (first, second, name) in wanted else "of the run"
-            raise Contradiction(f"{self.process.name}: --verify: only the trace {where} has a race of "
-                                f"{printable(name)} at {printable(first)} and {printable(second)}; "
+            raise Contradiction(f"--verify: only the trace {where} has a race of {printable(name)} at "
+                                f"{printable(first)} and {printable(second)}; "
                                 f"{counted(len(differ), 'such race')}")
 
-    def take_places(self, listed, ran, finer):
+    def take_places(self, ran, finer):
         """Takes the places of the run. In a coarse trace variables that are used alike are one, a bundle. As
         long as bundles are in a race the next one of `finer` brings a trace where these are apart, at last
         all. A second look numbers events as in the trace where all are."""
-        bundles = self.take(listed)
+        bundles = self.take(ran.out)
         for pipe in finer:
             if has_writer(pipe) and (bundles or (self.has_known and self.races)):
                 ran.say([*map(line_of, [] if self.has_known else bundles), b"again\n"])
-                with self.listing(pipe) as listed:
-                    bundles = self.take(listed)
+                bundles = self.take(pipe)
 
-    def listing(self, pipe=None):
-        return contextlib.closing(Listing(open(self.place_list, "w+b"), pipe))
-
-    def take(self, listed):
+    def take(self, pipe):
         """Takes the places of the run, and returns the races of bundles."""
-        self.places = listed.places()
+        with Listing(open(self.place_list, "w+b"), pipe) as listed:
+            self.places = listed.places()
         self.races, self.counts, self.events = listed.races, listed.counts, listed.counts.events
         return [race for race in self.races if race.accesses[0].name.endswith(BUNDLE)]
 
@@ -244,7 +228,7 @@ class Conversion:
             uses = Uses(self.uses)
             self.called = Stacks(self.stacks, uses.count)
         except BadUses as fault:
-            raise Contradiction(f"{self.process.name}: the file of uses {fault}") from None
+            raise Contradiction(f"the file of uses {fault}") from None
         except BadStacks as fault:
             raise Refused(f"{self.stacks} {fault}") from None
         races = [race for place in places for race in place.variables.values()]
@@ -260,11 +244,9 @@ class Conversion:
                 line, at = next(itertools.islice(trace, number - at - 1, None), None), number
                 lost += line is None
                 if line and line != b"%b|%b(%b)|%b\n" % wanted[number]:
-                    fault = f"event {number:,} of the page's trace isn't that {of_list}"
-                    raise Contradiction(f"{self.process.name}: {fault}")
+                    raise Contradiction(f"event {number:,} of the page's trace isn't that {of_list}")
         if lost:
-            fault = f"the page's trace lacks {counted(lost, 'event')} {of_list}"
-            raise Contradiction(f"{self.process.name}: {fault}")
+            raise Contradiction(f"the page's trace lacks {counted(lost, 'event')} {of_list}")
         self.numbers = {race.events: pair for race in races for pair in [uses.pair(*race.events)] if pair}
         self.used = uses
 
@@ -282,7 +264,7 @@ class Conversion:
         said = answer.said.decode(errors="backslashreplace").replace("shb-std: ", "").splitlines()
         if answer.status not in (0, NOT_WHOLE):
             how = f"status {answer.status}" if answer.status > 0 else f"signal {-answer.status}"
-            raise Refused(f"{self.process.name}: {'; '.join(said) or f'shb-std ended with {how}'}")
+            raise Refused("; ".join(said) or f"shb-std ended with {how}")
         return said
 
     def end(self, answer):

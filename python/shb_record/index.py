@@ -9,36 +9,28 @@ import itertools
 from shb_common import known, result, sarif
 from shb_common.locations import parts_of
 from shb_common.parts import part_of_page
-from shb_common.words import counted, in_html
+from shb_common.words import counted
+from shb_view.html import element, head, joined, with_commands
 
 HEADS = "File", "Bugs", "Places", "Runs"
-# nothing is loaded or run, whatever a name says
-POLICY = ('<meta http-equiv="Content-Security-Policy" content="default-src \'none\'; base-uri \'none\'; '
-          'form-action \'none\'; style-src \'unsafe-inline\'">')
-NO_BUG = "<p>No place with a race was found.</p>"
+NO_BUG = "No place with a race was found."
+VERIFIED = "Verified: every group on the pages has a race with a schedule that `shb check` accepts."
 
 # `pages` are links by the names of processes, the largest group's first; `runs` are the processes with it.
 Bug = collections.namedtuple("Bug", "name headline remedy file places pages runs states rank")
 
 
 def index(title, document):
-    head = (f'<!doctype html>\n<html lang="en"><meta charset="utf-8">\n'
-            f'<meta name="viewport" content="width=device-width, initial-scale=1">\n{POLICY}\n'
-            f"<title>Data races of {in_html(title)}</title><style>{part_of_page('page.css')}</style>\n")
-    summary = document["summary"]
-    body = overview(document) if document["places"] else NO_BUG
+    summary, groups = document["summary"], document["groups"]
     size = f"{counted(summary['runs'], 'run')}, {counted(summary['unknown'], 'unknown place')}"
-    notes = "".join(f'<p class="faint">{in_html(note)}</p>\n' for note in document["notes"])
-    return (f"{head}{verdict(document['groups'])}<h1>{in_html(title)}</h1>\n"
-            f'<p class="faint">{size}</p>\n{body}\n{notes}</html>\n').encode(errors="backslashreplace")
-
-
-def verdict(groups):
-    """What `shb check` found of all pages, if it found all good."""
-    if not groups or not all(group.get("schedule", {}).get("is_checked") for group in groups):
-        return ""
-    return ('<p class="verdict good">Verified: every group on the pages has a race with a schedule that '
-            "<code>shb check</code> accepts.</p>\n")
+    # what `shb check` found of all pages
+    is_good = groups and all(group.get("schedule", {}).get("is_checked") for group in groups)
+    parts = [*[element("p", with_commands(VERIFIED), class_="verdict good")] * bool(is_good),
+             element("h1", title), element("p", size, class_="faint"),
+             *(overview(document) if document["places"] else [element("p", NO_BUG)]),
+             *(element("p", note, class_="faint") for note in document["notes"])]
+    page = head(f"Data races of {title}", part_of_page("page.css")) + joined(parts, "\n")
+    return f"{page}\n</body>\n</html>\n".encode(errors="backslashreplace")
 
 
 def overview(document):
@@ -46,19 +38,20 @@ def overview(document):
     for bug in found:
         by_file.setdefault(bug.file, []).append(bug)
     files = sorted(by_file.items(), key=lambda one: -len(one[1]))
-    most, rows, tables = max(map(len, by_file.values())), [], []
+    rows, tables = [], []
     for number, (file, its) in enumerate(files, 1):
-        share = f'<b class="share" style="--part:{len(its) / most:.2f}">{len(its):,}</b>'
+        part = len(its) / len(files[0][1])
+        share = element("b", f"{len(its):,}", class_="share", style=f"--part:{part:.2f}")
         rows.append([link(f"#file-{number}", file), share, *sums(its)])
-        tables.append(f'<h2 id="file-{number}">{in_html(file)}</h2>\n'
-                      + table("bugs", ("Variable", "Fact and remedy", *HEADS[2:]), map(cells_of, its)))
-    head = (f'<p class="sum">{counted(len(found), "bug")} in {counted(len(files), "file")}: '
-            f'{counted(len(document["places"]), "place")} with races</p>\n')
-    return head + table("files", HEADS, rows) + "\n".join(tables)
+        tables += [element("h2", file, id=f"file-{number}"),
+                   table("bugs", ("Variable", "Fact and remedy", *HEADS[2:]), map(cells_of, its))]
+    size = (f"{counted(len(found), 'bug')} in {counted(len(files), 'file')}: "
+            f"{counted(len(document['places']), 'place')} with races")
+    return element("p", size, class_="sum"), table("files", HEADS, rows), *tables
 
 
 def link(way, words):
-    return f'<a href="{in_html(way)}">{in_html(words)}</a>'
+    return element("a", words, href=way)
 
 
 def sums(found):
@@ -67,22 +60,21 @@ def sums(found):
 
 
 def table(kind, heads, rows):
-    def row(tag, cells):
-        return f"<tr>{''.join(f'<{tag}>{cell}</{tag}>' for cell in cells)}</tr>\n"
-    body = "".join(row("td", cells) for cells in rows)
-    return (f'<div class="wide"><table class="{kind}"><thead>{row("th", heads)}</thead><tbody>\n{body}'
-            "</tbody></table></div>")
+    head, *body = (element("tr", *(element(tag, cell) for cell in cells))
+                   for tag, cells in [("th", heads), *(("td", row) for row in rows)])
+    its = element("table", element("thead", head), "\n", element("tbody", joined(body, "\n")), class_=kind)
+    return element("div", its, class_="wide")
 
 
 def cells_of(bug):
     """The cells of a bug's row; links lead to all its pages."""
     (_, page), *others = bug.pages.items() or [("", "")]
-    name = link(page, bug.name) if page else in_html(bug.name)
-    tags = "".join(f' <span class="tag {state}">{state}</span>' for state in bug.states if state != "unknown")
-    more = ", ".join(link(way, process.partition(",")[0]) for process, way in others)
-    also = f'<br><span class="faint">also in {more}</span>' if more else ""
-    return (f"<code>{name}</code>{tags}", f'{in_html(bug.headline)}<br><span class="faint">'
-            f"{in_html(bug.remedy)}</span>{also}", *sums([bug]))
+    tags = [element("span", state, class_=f"tag {state}") for state in bug.states if state != "unknown"]
+    more = joined((link(way, process.partition(",")[0]) for process, way in others), ", ")
+    fact = [bug.headline, element("br"), element("span", bug.remedy, class_="faint"),
+            *[element("br"), element("span", "also in ", more, class_="faint")] * bool(others)]
+    return (joined([element("code", link(page, bug.name) if page else bug.name), *tags], " "), joined(fact),
+            *sums([bug]))
 
 
 def bugs(document):

@@ -11,7 +11,7 @@ from shb_common.words import Refused, counted, printable
 from shb_record.converting import CRASHED, KILLED, Contradiction, Conversion, check_room, order_of
 from shb_record.modules import Modules
 from shb_record.parts import ANALYSER, now, say
-from shb_record.places import Places
+from shb_record.places import New, Places
 from shb_record.running import PRELOADED, cause
 
 KINDS = {b"r": "read", b"w": "written"}
@@ -57,8 +57,7 @@ class Look:
         self.is_cut |= self.source.dropped > 0
         if not self.options.live and not any(one is None or one.events for one in looked):
             if self.is_cut:
-                words = shlex.join(["shb-record", "env", f"LD_PRELOAD={PRELOADED}", self.options.program,
-                                    *self.options.arguments])
+                words = shlex.join(["shb-record", "env", f"LD_PRELOAD={PRELOADED}", *self.options.words])
                 late = any(one and LATE in cut for one in looked for cut in one.cuts)
                 hint = f"; for a module with hooks that the program loads later run `{words}`"
                 raise Refused("nothing of the run was recorded" + hint * late)
@@ -84,7 +83,7 @@ class Look:
         try:
             do(looked)
         except (Refused, OSError) as fault:
-            self.fail(fault)
+            self.fail(fault, f"{process.name}: ")
             self.say_unshown(looked)
             if os.path.exists(process.record) and os.path.getsize(process.record):
                 self.keep_failed(process)
@@ -95,13 +94,11 @@ class Look:
 
     def say_unshown(self, looked):
         """Says which places are listed of a process that can't be shown."""
-        if looked.named:
-            found = [(new.place, new.variables) for new in self.places.unknown_of(looked.new)]
-        else:
-            found = [(place, place.variables) for place in looked.places]
+        if not looked.named:
             self.unshown += count(looked.places)
         if not self.stops.first:  # else they were said before
-            say_places(found, f"{looked.process.name}: ", "with races that can't be shown")
+            say_places(self.places.unknown_of(looked.new) if looked.named else as_new(looked.places),
+                       f"{looked.process.name}: ", "with races that can't be shown")
 
     def keep_failed(self, process):
         self.failed += 1
@@ -116,7 +113,7 @@ class Look:
         """A line each on what a run says nothing about."""
         yield from self.modules.lines()
         if self.options.runs == 1 and (self.has_threads or self.places.seen):
-            words = ["shb-record", "--runs", "10", self.options.program, *self.options.arguments]
+            words = ["shb-record", "--runs", "10", *self.options.words]
             yield f"One interleaving of many was seen; ten: {shlex.join(words)}"
         yield from self.source.meaning
 
@@ -130,8 +127,8 @@ class Look:
         """How much was looked at, where it isn't said of each process."""
         return self.source.counts(self.events, self.passed)
 
-    def fail(self, fault):
-        say(words_of(fault))
+    def fail(self, fault, whose=""):
+        say(whose + words_of(fault))
         self.has_failed = True
         self.is_contradicted |= isinstance(fault, Contradiction)
 
@@ -171,7 +168,7 @@ class Look:
             self.passed += has_met and bool(places)
             return [] if has_met else places
         if self.stops.first:
-            say_places([(place, place.variables) for place in places], f"{process.name}: ", "with races")
+            say_places(as_new(places), f"{process.name}: ", "with races")
         return places
 
     def look_again(self, looked):
@@ -193,10 +190,13 @@ class Look:
 
     def show(self, looked):
         process, unknown = looked.process, self.places.unknown_of(looked.new)
+        whose, turns = f"{process.name} ({process.command}): ", self.kept_turns(process, unknown)
         if unknown:
-            self.show_places(looked, unknown)
+            self.show_places(looked, unknown, turns)
         self.note_cuts(looked)
-        self.keep_turns(process, bool(unknown))
+        if process.replay:
+            self.has_replayed = True
+            say(whose + process.replay)
         self.events += looked.events
         if looked.events and self.options.runs > 1:
             self.runs[-1].append(order_of(process.record))
@@ -205,13 +205,13 @@ class Look:
         if unknown if self.options.live else looked.events and is_told:
             found = [one.place for one in unknown] if self.options.live else looked.places
             words = counted(count(found), "new place" if self.options.live else "place")
-            say(f"{process.name} ({process.command}): {looked.size}; {words} with races")
+            say(f"{whose}{looked.size}; {words} with races")
         for note in looked.notes:
             if (looked.events or note != KILLED) and note not in self.said:
                 self.said.update([note] if self.options.live else [])
                 is_full = "SHB_RECORDS is reached" in note
                 more = "; SHB_RECORDS=NUMBER allows more records, of 16 bytes each" if is_full else ""
-                say(f"{process.name} ({process.command}): {note}{more}")
+                say(whose + note + more)
 
     def note_cuts(self, looked):
         """Takes what makes a record a part of its run. A thread too many doesn't, nor that a program of one
@@ -222,30 +222,26 @@ class Look:
         self.is_killed |= cuts == [KILLED]
         self.has_threads |= bool(looked.events)
 
-    def keep_turns(self, process, has_unknown):
-        """Keeps a process's turns if there is something to run again, and says how far it followed any."""
+    def kept_turns(self, process, unknown):
+        """Keeps a process's turns if there is something to run again. Returns their path, or nothing."""
         turns = process.beside(".turns")
-        if os.path.exists(turns) and (has_unknown or self.options.keep):
-            kept = self.results.keep(turns, f"{process.base}.turns")
-            if has_unknown:
-                self.again = self.again or kept
-        if process.replay:
-            self.has_replayed = True
-            say(f"{process.name} ({process.command}): {process.replay}")
+        if not os.path.exists(turns) or not (unknown or self.options.keep):
+            return ""
+        kept = self.results.keep(turns, f"{process.base}.turns")
+        if unknown:
+            self.again = self.again or kept
+        return kept
 
-    def show_places(self, looked, unknown):
+    def show_places(self, looked, unknown, turns):
         """The page and text of new unknown places, and what the view found; if it fails, the places alone."""
-        process, numbers = looked.process, looked.numbers
-        is_on_page = [any(one.place.variables[name].events in numbers
-                          for name in one.variables & one.place.variables.keys()) for one in unknown]
-        say_places([(one.place, one.variables) for one, is_there in zip(unknown, is_on_page) if not is_there],
-                   "", "of the run without a page, since their accesses don't fit")
-        if not any(is_on_page):
+        process = looked.process
+        lost = [one for one in unknown if not any(race.events in looked.numbers and name in one.variables
+                                                  for name, race in one.place.variables.items())]
+        say_places(lost, "", "of the run without a page, since their accesses don't fit")
+        if len(lost) == len(unknown):
             return
         first = [note for note in looked.notes if note.startswith(CRASHED)] + looked.cuts
         notes = [f"{note[0].upper()}{note[1:]}." for note in [*first, process.replay] if note]
-        has_turns = os.path.exists(process.beside(".turns"))
-        turns = f"{self.results.folder}/{process.base}.turns" if has_turns else ""
         page = self.results.path(f"{process.base}.html")
         # takes its time, and a run without a place does without
         from shb_view.command import explain, show_run
@@ -257,15 +253,15 @@ class Look:
             new=variables_at(unknown),
             behind=variables_at(one for one in unknown if one.place in looked.behind),
             about=list(self.meaning()), unseen=self.modules.calls(process.modules), turns=turns,
-            command=shlex.join([self.options.program, *self.options.arguments]))
+            command=shlex.join(self.options.words))
         title = f"{process.command} ({process.name}, {self.started})"
         asked = Asked(ANALYSER, True, self.options.source, True, title, notes)
         _, view = explain(show_run, run, asked, page, sys.stderr)
         if not view:
-            say_places([(one.place, one.variables) for one in unknown])
+            say_places(unknown)
             return
         if view.verdict.is_good is False:
-            self.fail(Contradiction(f"{process.name}: {bad_words(view)}"))
+            self.fail(Contradiction(bad_words(view)), f"{process.name}: ")
         self.pages.append(page)
         self.found[process.name, looked.trace] = found = document(view)
         its = [note for note in found["notes"] if note not in notes]
@@ -276,12 +272,16 @@ class Look:
 def say_places(found, whose="", what=""):
     """Says how many places these are, and of each and some of its variables a race."""
     if found and what:
-        say(f"{whose}{counted(count(place for place, _ in found), 'place')} {what}:")
-    for place, names in found:
-        for name in sorted(place.variables.keys() & names):
+        say(f"{whose}{counted(count(one.place for one in found), 'place')} {what}:")
+    for one in found:
+        for name in sorted(one.place.variables.keys() & one.variables):
             first, second = (f"{printable(access.location)} {KINDS[access.word]} by "
-                             f"{printable(access.thread)}" for access in place.variables[name].accesses)
+                             f"{printable(access.thread)}" for access in one.place.variables[name].accesses)
             say(f"  {printable(name)}: {first}, and {second}")
+
+
+def as_new(places):
+    return [New(None, place, place.variables.keys()) for place in places]
 
 
 def variables_at(new):

@@ -74,8 +74,7 @@ class Run:
         self.wait, self.stop, self.stopped, self.end, self.own = options.wait, None, None, None, None
         before = signal.pthread_sigmask(signal.SIG_BLOCK, WATCHED)
         try:
-            words = [options.program] + options.arguments
-            self.program = started(words, environment(options, number, folder),
+            self.program = started(options.words, environment(options, number, folder),
                                    before if blocked is None else blocked)
             while not self.has_ended():
                 pauses = [0 if look() else POLL] if look else []

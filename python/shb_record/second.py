@@ -5,7 +5,6 @@ are harmless."""
 
 import array
 import bisect
-import contextlib
 import tempfile
 from subprocess import PIPE
 
@@ -28,12 +27,9 @@ class Second:
 
     def places(self, conversion, room):
         """The places of the trace without these accesses, with the events' numbers in the whole trace."""
-        with contextlib.closing(Listing(tempfile.TemporaryFile(dir=room))) as listed, \
-                Run(conversion.list_words, None, PIPE, **apart()) as ran:
-            with contextlib.suppress(BrokenPipeError):  # if `shb` ended early, its status says why
-                with open(listed.descriptor, "wb", closefd=False) as out:
-                    self.write_rest(ran.out, out)
-            listed.begun()
+        with Run(conversion.list_words, None, PIPE, **apart()) as ran, \
+                Listing(tempfile.TemporaryFile(dir=room), PIPE) as listed:
+            listed.give(self.rest(ran.out))
             return list(map(self.in_whole, listed.places()))
 
     def in_whole(self, place):
@@ -41,7 +37,8 @@ class Second:
         return place._replace(variables={name: found._replace(events=tuple(map(self.number, found.events)))
                                          for name, found in place.variables.items()})
 
-    def write_rest(self, lines, out):
+    def rest(self, lines):
+        """The lines that aren't left out."""
         kept = 0
         for number, line in enumerate(lines, 1):
             _, operation, location = line.split(b"|", 2)
@@ -51,7 +48,7 @@ class Second:
                 if (location[:-1], name) in self.accesses:
                     self.kept_before.append(kept)
                     continue
-            out.write(line)
+            yield line
             kept += 1
 
     def look(self, number, operation, name):

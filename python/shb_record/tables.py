@@ -22,8 +22,7 @@ def tables_of(look, rows, status):
         found.update(result.entries_of((process, trace), places))
         groups += [{**group, "process": process, "trace": os.path.basename(trace)} for group in its["groups"]]
     entries = [entry(look, row, result.entry_of(found, row)) for row in rows]
-    title = shlex.join([look.options.program, *look.options.arguments])
-    return written(title, document(look, rows, entries, groups, status), rows)
+    return written(shlex.join(look.options.words), document(look, rows, entries, groups, status), rows)
 
 
 def written(title, its, rows):

@@ -87,8 +87,8 @@ class Kinds:
 class Counting:
     def __init__(self, groups, wanted, kinds, uses):
         """`groups` has a number for each racing variable; `wanted` are the accesses to be noted, `kinds` says
-        what an access is; `uses` are those of the whole run if the trace is a part of it."""
-        self.uses, self.are_apart = uses and uses.uses, uses and uses.are_apart
+        what an access is; `uses` has those of the whole run if the trace is a part of it."""
+        self.uses, self.is_of_run = uses, uses.count is not None
         self.groups, self.wanted, self.access_kinds = groups, wanted, kinds
         self.racing = kinds.gathered.accesses
         # By group, how many accesses there are of each kind: its location (None where lines aren't told apart
@@ -107,15 +107,12 @@ class Counting:
         # By variable and location: the stacks of the accesses, each with whether no lock is held.
         self.callers = collections.defaultdict(collections.Counter)
         self.callers_threads = collections.defaultdict(set)  # by stack: threads with an access there
-        self.sights = uses.sights if uses else ()
         self.seen = set()  # where races write and then read that, as pairs
         self.last, self.joined = {}, {}  # by thread its last event of this part; by a join its thread's
         self.ended = collections.defaultdict(lambda: array.array("Q"))  # by thread: its last ones of parts
         self.lockers = collections.defaultdict(set)  # by lock: the threads that use it
         self.begins, self.ends = {}, {}  # by thread: where it is created and joined, as `Step`
-        # `alike`: by kind of access its last event
-        self.repeated, self.alike = uses.repeated if uses else set(), {}
-        self.once = uses.once if uses else set()  # of these: what follows one release alone
+        self.alike = {}  # by kind of access its last event
         self.again = collections.defaultdict(list)  # by variable: its events that stand for repeats
         self.releases = {}  # by thread: its last one in this part
         # by word, variable and location: by a release the events of the access after it; None if two are
@@ -124,7 +121,7 @@ class Counting:
     def read(self, trace, events):
         """Takes all events of the trace; there have to be so many."""
         self.take_all(trace)
-        if self.uses is not None:
+        if self.is_of_run:
             self.take_uses()
         self.used.update((group, used_in(counts)) for group, counts in self.counts.items())
         if trace.count() != events or self.found != len(self.racing):
@@ -146,13 +143,14 @@ class Counting:
                     if is_near:
                         held[thread].take(*lock, number)
                     self.lockers[lock[1]].add(thread)
-                if operation.startswith(b"rel("):
-                    self.release(number, thread, operation[4:-1], without_end(line))
-                elif operation.startswith(b"fork("):
-                    self.begins[operation[5:-1]] = Step(thread, number, line)
-                elif operation.startswith(b"join(") and operation[5:-1] in last:
-                    self.joined[number] = last[operation[5:-1]]
-                    self.ends[operation[5:-1]] = Step(thread, number, line)
+                word, _, name = operation[:-1].partition(b"(")
+                if word == b"rel":
+                    self.release(number, thread, name, without_end(line))
+                elif word == b"fork":
+                    self.begins[name] = Step(thread, number, line)
+                elif word == b"join" and name in last:
+                    self.joined[number] = last[name]
+                    self.ends[name] = Step(thread, number, line)
             elif operation in groups:
                 self.access(number, thread, operation, without_end(line), groups[operation])
             if is_near:
@@ -195,27 +193,26 @@ class Counting:
                 self.sources[number] = self.writes.get(variable)
         if word == b"w":
             self.writes[variable] = number
-        if number in self.repeated:
+        if number in self.uses.repeated:
             since = self.alike.get((thread, operation, location), 0)
             self.again[variable].append(Repeated(thread, word, since, number))
         self.alike[thread, operation, location] = number
-        if self.access_kinds.stacks.numbers:
-            self.callers_threads[self.access_kinds.stacks.numbers[number - 1]].add(thread)
+        kinds, stacks = self.access_kinds, self.access_kinds.stacks
+        if stacks.numbers:
+            self.callers_threads[stacks.numbers[number - 1]].add(thread)
         release, its = self.releases.get(thread), self.follows.setdefault((word, variable, location), {})
         if release and its is not None:
             before = its.get(release, ())  # the same access again, as it may be recorded twice
-            is_one = not before or self.last[thread] == before[-1] and number not in self.repeated
+            is_one = not before or self.last[thread] == before[-1] and number not in self.uses.repeated
             its[release] = *before, number
             self.follows[word, variable, location] = its if is_one else None
-        if self.uses is not None and number not in self.wanted:
+        if self.is_of_run and number not in self.wanted or not kinds.is_in_life(number, variable):
             return
-        if not self.access_kinds.is_in_life(number, variable):
-            return
-        held, stacks = self.held[thread], self.access_kinds.stacks
+        held = self.held[thread]
         if number in self.wanted:
             self.noted[number] = Noted(tuple(self.recent[thread]), held.newest()[0])
-        if self.uses is None:
-            word, of = self.access_kinds.of(number, word, variable), self.access_kinds.in_trace(variable)
+        if not self.is_of_run:
+            word, of = kinds.of(number, word, variable), kinds.in_trace(variable)
             if stacks.numbers:
                 self.callers[of, location][stacks.numbers[number - 1], not held.locks] += 1
             free, of = (stacks.free_of(number), b"") if word == b"f" else (None, of)
@@ -249,18 +246,18 @@ class Counting:
                 (first, second), (one, other) = race.events, race.accesses
                 lines = race.place if one.word == b"w" else race.place[::-1]
                 if (self.sources.get(second) == first
-                    or b"r" in (one.word, other.word) and (name, *lines) in self.sights):
+                    or b"r" in (one.word, other.word) and (name, *lines) in self.uses.sights):
                     self.seen.add(lines)
 
     def take_uses(self):
         """Takes the uses of the whole run. A free is one of all variables of its block: those of one
         of them count."""
         kinds, freed = self.access_kinds, {}
-        loads, reads = ({(use.variable, use.location) for use in self.uses if use.word == word}
+        loads, reads = ({(use.variable, use.location) for use in self.uses.uses if use.word == word}
                         for word in READS)
         kinds.loads = loads - reads
         groups = {kinds.in_trace(variable): group for variable, group in self.groups.items()}
-        for use in self.uses:
+        for use in self.uses.uses:
             word, variable, local, location, *_ = use
             group = groups.get(variable)
             if group is None or kinds.locals.get(variable, local) != local and variable.startswith(b"stack."):

@@ -13,7 +13,7 @@ from shb_common.words import counted
 from shb_view.groups import name_parts
 from shb_view.held import read_lock
 from shb_view.names import by_numbers
-from shb_view.words import Code, Own, listed, lock_name, place
+from shb_view.words import Code, Own, as_parts, listed, lock_name, place
 
 MOST_NAMED = 3  # lines in a sentence
 FLAG = "make it atomic if it is a flag or a counter; else "
@@ -625,7 +625,7 @@ def names_of(sites):
 
 
 def places(locations):
-    return listed(([place(it)] for it in locations), MOST_NAMED)
+    return listed(map(place, locations), MOST_NAMED)
 
 
 def worded(template, *its):
@@ -635,5 +635,5 @@ def worded(template, *its):
     for one, after in zip(its, texts):
         if isinstance(one, list) and any(isinstance(part, Site) for part in one):
             one = places(site.location for site in one)
-        found += [*([one] if isinstance(one, (str, bytes)) else one), after]
+        found += [*as_parts(one), after]
     return list(filter(None, found))

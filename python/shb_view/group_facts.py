@@ -26,7 +26,7 @@ class Facts:
 
     def __init__(self, counting, whole):
         self.kinds, self.whole = counting.access_kinds, whole
-        self.known, self.are_apart = {}, counting.are_apart  # `known` has by variable what holds of it alone
+        self.known, self.are_apart = {}, counting.uses.are_apart  # `known`: by variable what holds of it alone
         self.again = counting.again
         self.private = {lock for lock, threads in counting.lockers.items()  # on the stack of a thread that
                         if lock.startswith(b"stack.") and len(threads) == 1}  # alone uses it
@@ -60,8 +60,7 @@ class Facts:
     def has_far(self, group):
         """Whether the page's trace lacks something between the accesses of a race: then it says
         nothing of that."""
-        races = self.kinds.gathered.races(group.names) if self.are_apart else ()
-        return any(self.are_apart(*race.events) for race in races)
+        return any(self.are_apart(*race.events) for race in self.kinds.gathered.races(group.names))
 
     def with_gone(self, group, fact):
         """A fact, with the lines that use a local of another thread when that has the system's ones there."""
@@ -121,7 +120,7 @@ class Facts:
 
     def mixed(self, parts):
         """What is said of a group whose variables differ: the fact of each part."""
-        names = [listed([[Code(name)] for name in one.group.variables], MOST_NAMED) for one in parts]
+        names = [listed(map(Code, one.group.variables), MOST_NAMED) for one in parts]
         said = [fact_entry(one, self.kinds) for one in parts]
         sentences = [[*its, ": ", *sentence] for its, one in zip(names, parts)
                      for sentence in one.fact.sentences]
@@ -163,7 +162,7 @@ def merged_groups(groups, used, facts):
         one, thing = facts.of(group, used[number]), object_of(group)
         racing = frozenset((thread, thread in site.writers) for site in one.sites if site.partners
                            for thread in site.threads)
-        uses = tuple(pair.key()[:3] for pair in one.fact.pairs())
+        uses = tuple(pair.key() for pair in one.fact.pairs())
         key = ((thing, one.fact.form, one.fact.lock, uses, racing) if thing
                and one.fact.form != "mixed" else number)
         found.setdefault(key, []).append(one)

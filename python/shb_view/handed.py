@@ -26,8 +26,7 @@ class Handed(collections.namedtuple("Handed", "store load fence name")):
                 if not has]
 
     def key(self):
-        store, load = self.store, self.load
-        return store.name, store.location, load.location, store.kind, load.kind, store.order, load.order
+        return self.store.name, self.store.location, self.load.location
 
 
 def may_count(store, load):
@@ -87,7 +86,7 @@ def between(pairs, race, is_free):
             and store.name != variable_of(race)):
             pair = pair.seen_from(second)
             if pair.lacking():
-                found.setdefault(pair.key(), pair)
+                found.setdefault((pair.key(), *store[4:6], *pair.load[4:6]), pair)
     return found
 
 
@@ -106,6 +105,6 @@ def published(races, pairs, frees):
             if not common:
                 return []
         pair = min(common.values(), key=lambda it: (it.store.event, it.load.event))
-        _, events = found.setdefault(pair.key()[:3], (pair, []))
+        _, events = found.setdefault(pair.key(), (pair, []))
         events.extend(race.events for race in its[:MOST_RACES])
     return list(found.values())[:MOST_NAMED]

@@ -63,7 +63,7 @@ def stack_lines(frames):
 
 def order_text(view, window):
     """After what the two accesses can execute next, as far as it is known."""
-    in_run = view.made.uses.in_run if view.of_run else {}
+    in_run = view.made.uses.in_run
     numbers = [f"{in_run[access]:,}" for access in window.accesses if access in in_run]
     of_run = f"In the run the accesses are events {' and '.join(numbers)}" if numbers else ""
     if window.schedule is None:

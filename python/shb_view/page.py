@@ -9,9 +9,10 @@ import shlex
 from shb_common.locations import bare, line_of
 from shb_common.parts import part_of_page
 from shb_common.sums import sha256
-from shb_common.words import counted, in_html
+from shb_common.words import counted
 from shb_view.facts import RANKS, blamed_of
 from shb_view.groups import common_name
+from shb_view.html import Markup, element, head, joined, with_commands
 from shb_view.issue import issue_lines, order_text
 from shb_view.names import code_line, readable, short
 from shb_view.picture import picture
@@ -26,34 +27,6 @@ NAME, LINE = 80, 240  # columns
 MOST_STACKS, MOST_FRAMES, MOST_ORIGINS = 8, 40, 8
 MOST_BYTES = 2_000_000  # of what groups are drawn from; the last of them may go beyond
 KNOWN = "known, or on an earlier page"
-VOID = {"br", "meta"}  # elements without an end
-
-
-class Markup(str):
-    """A piece of HTML. Whatever is no Markup is escaped when it is put into one."""
-
-
-def escaped(part):
-    return part if isinstance(part, Markup) else Markup(in_html(str(part)))
-
-
-def joined(parts, between=""):
-    return Markup(between.join(map(escaped, parts)))
-
-
-def element(tag, /, *parts, **attributes):
-    """An element. An attribute's name may end with `_`, and `_` inside stands for `-`; one that is None
-    is left out."""
-    given = "".join(f' {word.rstrip("_").replace("_", "-")}="{escaped(value)}"'
-                    for word, value in attributes.items()
-                    if value is not None)
-    return Markup(f"<{tag}{given}>") if tag in VOID else Markup(f"<{tag}{given}>{joined(parts)}</{tag}>")
-
-
-def with_commands(text):
-    """Words of our own, with what stands between backticks as code."""
-    return joined(element("code", part) if number % 2 else part
-                  for number, part in enumerate(text.split("`")))
 
 
 def marked(parts, most):
@@ -63,19 +36,14 @@ def marked(parts, most):
 
 def page_parts(view):
     style, script = map(part_of_page, ("page.css", "page.js"))
-    head = [element("meta", charset="utf-8"), policy(style, script),
-            element("meta", name="viewport", content="width=device-width, initial-scale=1"),
-            element("title", f"{view.title}: {summary(view)[0]}"), element("style", Markup(style))]
-    yield "<!doctype html>\n<html lang=\"en\">\n"
-    yield element("head", joined(head, "\n")) + "\n<body>\n" + header(view) + "\n<main id=\"groups\">\n"
-    tags = {} if all(section.is_asked_for for section in view.sections) else {True: "new", False: "known"}
-    rows = {True: [], False: []}
-    for number, section in enumerate(view.sections, 1):
-        rows[section.is_asked_for].append(group_row(view, number, section, tags.get(section.is_asked_for)))
-    yield joined(rows[True], "\n")
-    if rows[False]:
-        yield element("details", element("summary", counted(len(rows[False]), "group"), f" {KNOWN}"),
-                      *rows[False], id="known")
+    yield head(f"{view.title}: {summary(view)[0]}", style, *map(sum_of, (style, script)))
+    yield header(view) + '\n<main id="groups">\n'
+    new, known = ([(number, section) for number, section in enumerate(view.sections, 1)
+                   if section.is_asked_for == is_new] for is_new in (True, False))
+    yield joined((group_row(view, *one, ["new"] * bool(known)) for one in new), "\n")
+    if known:
+        yield element("details", element("summary", counted(len(known), "group"), f" {KNOWN}"),
+                      *(group_row(view, *one, ["known"]) for one in known), id="known")
     yield "\n</main>\n"
     if view.groups > len(view.sections):
         yield element("p", f"and {counted(view.groups - len(view.sections), 'more group')}")
@@ -83,13 +51,9 @@ def page_parts(view):
     yield island(data(view)) + "\n" + element("script", Markup(script)) + "\n</body>\n</html>\n"
 
 
-def policy(style, script):
-    """What the browser may run and load: this style and this script, whatever a name says."""
-    style, script = (binascii.b2a_base64(sha256(text.encode()).digest(), newline=False).decode()
-                     for text in (style, script))
-    allowed = (f"default-src 'none'; base-uri 'none'; form-action 'none'; style-src 'sha256-{style}'; "
-               f"script-src 'sha256-{script}'")
-    return element("meta", http_equiv="Content-Security-Policy", content=allowed)
+def sum_of(text):
+    """What stands for a style or a script in a policy."""
+    return f"'sha256-{binascii.b2a_base64(sha256(text.encode()).digest(), newline=False).decode()}'"
 
 
 def island(found):
@@ -113,10 +77,10 @@ def header(view):
                    *(element("p", with_commands(note), class_="faint") for note in [*notes, *view.about]))
 
 
-def group_row(view, number, section, tag):
+def group_row(view, number, section, tags):
     """A group's row, and its text."""
     tags = [element("span", word, class_=f"tag {word.split()[0]}")
-            for word in [*[tag] * bool(tag), *["perhaps ordered"] * bool(section.unseen)]]
+            for word in [*tags, *["perhaps ordered"] * bool(section.unseen)]]
     cells = {"no": number, "var": marked(common_name(section.group.variables), NAME),
              "fact": joined([marked(section.fact.tag, NAME), *tags]),
              "at": marked([place(blamed(section))], NAME),

@@ -49,7 +49,7 @@ def told_together(kind, verb, its):
     found = {}
     for name, frames in its:
         key = tuple(map(tuple, caller_lines(frames, len(frames))))
-        found.setdefault(key, ([], frames))[0].append([Code(name)])
+        found.setdefault(key, ([], frames))[0].append(Code(name))
     return [([f"{kind} " if len(names) == 1 else f"{kind}s ", *listed(names, MOST_NAMED),
               f" was {verb}" if len(names) == 1 else f" were {verb}"], frames)
             for names, frames in found.values()]

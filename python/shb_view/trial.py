@@ -37,7 +37,7 @@ def trials_of(found, facts, counting):
     for names, pairs in [handed for one in found for handed in one.fact.handed]:
         named.setdefault(keys_of(pairs), set()).update(names)
     for keys, names in named.items():
-        pairs = [pair for its in facts.pairs.values() for pair in its if pair.key()[:3] in keys]
+        pairs = [pair for its in facts.pairs.values() for pair in its if pair.key() in keys]
         trials[keys] = Change(names, ordered(facts.kinds.stacks.uses, pairs))
     for one in found:
         if one.fact.form in MOVED and one.fact.remedy and not facts.has_far(one.group):
@@ -57,7 +57,7 @@ def stale_of(found, facts, counting):
     before, lines = collections.defaultdict(list), {}
     for race in gathered.races(found.group.names):
         again = stacks.again.get(block_of(race.accesses[0].name))
-        if not again or counting.are_apart and counting.are_apart(again.event, race.events[1]):
+        if not again or counting.uses.are_apart(again.event, race.events[1]):
             return None
         for event, access in zip(race.events, race.accesses):
             pairs = facts.pairs.get((again.thread, access.thread), ())
@@ -144,7 +144,8 @@ def are_moved(site, found, counting, moved):
     one release: none does at a line with repeats behind releases of their own."""
     racing = {event for race in counting.access_kinds.gathered.races(found.group.names)
               for event, access in zip(race.events, race.accesses) if access.location == site.location}
-    is_behind_one = moved & counting.once and not moved & counting.repeated - counting.once
+    once = counting.uses.once
+    is_behind_one = moved & once and not moved & counting.uses.repeated - once
     return racing <= moved and not is_behind_one
 
 
@@ -175,7 +176,7 @@ def last_join(others, creator, ends, events):
 
 
 def keys_of(pairs):
-    return frozenset(pair.key()[:3] for pair in pairs)
+    return frozenset(pair.key() for pair in pairs)
 
 
 def ordered(uses, pairs):

@@ -10,6 +10,7 @@ import tempfile
 from shb_common.analyser import FULL, VARIABLES
 from shb_common.report import Report, in_order
 from shb_common.stacks import BadStacks, Stacks
+from shb_common.uses import Uses
 from shb_common.variables import without_block
 from shb_common.words import Refused
 from shb_view.advice import advised
@@ -46,7 +47,7 @@ NO_REPORT = Given((), None, Verdict(None, ""))
 
 # The races of a trace with so many events: of each variable at each place the nearest. A recorded run has
 # `uses`, and its `counts` are the run's.
-Subject = collections.namedtuple("Subject", "given counts events uses", defaults=(None,))
+Subject = collections.namedtuple("Subject", "given counts events uses", defaults=(Uses(),))
 
 # What is to be made of a trace: the `shb` to run, whether what comes before the races is to be shown, folders
 # of sources, whether those that the stacks name are to be shown, the title, and notes on the trace.
@@ -61,17 +62,18 @@ Asked = collections.namedtuple("Asked", "shb has_windows sources has_recorded ti
 RecordedRun = collections.namedtuple("RecordedRun",
                                      "trace counts races uses stacks new behind about unseen turns command",
                                      defaults=(None, {}, (), {}, "", ""))
+NO_RUN = RecordedRun(*[None] * 5)  # of a trace alone
 
 
 class View(collections.namedtuple("View", "title made pairs groups sections source notes stacks kinds "
-                                          "about turns command judge", defaults=((), "", "", ""))):
+                                          "about turns command judge")):
     """All that is shown. `pairs` and `groups` are how many there are, `sections` those that are shown.
     `notes` are what the caller said of the trace, `about` what it said of the recorder. `judge` is the
     command that makes the schedules of a page again and judges them, or nothing."""
 
     @property
     def of_run(self):
-        return self.made.uses is not None
+        return self.made.uses.count is not None
 
     @property
     def verdict(self):
@@ -85,7 +87,7 @@ def are_at(places, section):
     return any(not names.isdisjoint(places.get(pair, ())) for pair in group.places())
 
 
-def make_view(path, stacks, asked, progress):
+def make_view(path, stacks, asked, progress, run=NO_RUN):
     with contextlib.ExitStack() as room:
         file, gathered = room.enter_context(open_regular(path)), Gathered()
         made = of_trace(asked, file, gathered, room)
@@ -93,38 +95,33 @@ def make_view(path, stacks, asked, progress):
             kinds = Kinds(gathered, Stacks(stacks, made.events))
         except BadStacks as fault:
             raise BadStacks(f"{readable(stacks)} {fault}") from None
-        return view_of(file, made, kinds, asked, progress)
+        return view_of(file, made, kinds, asked, progress, run)
 
 
 def view_of_run(run, asked, progress):
     with contextlib.ExitStack() as room:
         file, gathered = room.enter_context(open(run.trace, "rb")), Gathered()
         made = of_run(run, asked, file, gathered, room)
-        view = view_of(file, made, Kinds(gathered, run.stacks), asked, progress, run.unseen)
-    return with_run(view, run)
+        return view_of(file, made, Kinds(gathered, run.stacks), asked, progress, run)
 
 
-def view_of(file, made, kinds, asked, progress, unseen={}):
-    """The view of the races of an open trace."""
-    groups = kinds.gathered.groups()
-    trace = Trace(file, progress, made.uses.parts if made.uses else ())
-    count, sections = make_sections(asked, kinds, made, trace, groups, unseen)
+def view_of(file, made, kinds, asked, progress, run):
+    """The view of the races of an open trace, with what the recorder hands over."""
+    groups, stacks = kinds.gathered.groups(), kinds.stacks
+    trace = Trace(file, progress, made.uses.parts)
+    count, sections = make_sections(asked, kinds, made, trace, groups, run.unseen)
     title = readable(asked.title or os.path.basename(file.name))
-    source = Source(asked.sources, os.fstat(file.fileno()).st_mtime,
-                    kinds.stacks.sources if asked.has_recorded else {})
+    source = Source(asked.sources, os.fstat(file.fileno()).st_mtime, stacks.sources if asked.has_recorded else {})
     notes = [*map(readable, asked.notes), *warnings(file.name)]
-    sections = [advised(section, source, kinds.stacks.functions) for section in sections]
-    return View(title, made, sum(len(group.pairs) for group in groups), count, sections, source, notes,
-                kinds.stacks, kinds, judge=judge_of(made, file.name))
+    sections = [with_run(advised(section, source, stacks.functions), run) for section in sections]
+    return View(title, made, sum(len(group.pairs) for group in groups), count, sections, source, notes, stacks,
+                kinds, list(map(readable, run.about)), readable(run.turns), readable(run.command),
+                judge_of(made, file.name))
 
 
-def with_run(view, run):
-    """A view with what the recorder hands over."""
-    sections = [section._replace(is_asked_for=run.new is None or are_at(run.new, section),
-                                 is_behind=are_at(run.behind, section))
-                for section in view.sections]
-    return view._replace(sections=sections, about=list(map(readable, run.about)), turns=readable(run.turns),
-                         command=readable(run.command))
+def with_run(section, run):
+    return section._replace(is_asked_for=run.new is None or are_at(run.new, section),
+                            is_behind=are_at(run.behind, section))
 
 
 def of_trace(asked, file, gathered, room):
@@ -202,7 +199,7 @@ def make_sections(asked, kinds, made, trace, groups, unseen={}):
     counting = Counting(variables, wanted, kinds, made.uses)
     try:
         counting.read(trace, made.events)
-        facts = Facts(counting, "trace" if made.uses is None else "run")
+        facts = Facts(counting, "run" if counting.is_of_run else "trace")
         found = merged_groups(groups, counting.used, facts)
         trials = trials_of(found, facts, counting)
         if trials:

@@ -53,9 +53,9 @@ def lock_parts(name):
 
 
 def listed(items, most):
-    """Items, each a list of parts, with commas and an `and` between them; after so many it is said how many
+    """Items, each a part or several, with commas and an `and` between them; after so many it is said how many
     more there are."""
-    items = list(items)
+    items = list(map(as_parts, items))
     if len(items) > most:
         items = [*items[:most], [f"{len(items) - most:,} more"]]
     found = []
@@ -66,6 +66,10 @@ def listed(items, most):
     return found
 
 
+def as_parts(one):
+    return [one] if isinstance(one, (str, bytes)) else one
+
+
 def flat_in(most):
     """Makes parts one text, with names of at most so many columns."""
     return lambda parts: "".join(short(part, most) if isinstance(part, Code) else part for part in parts)
@@ -74,7 +78,7 @@ def flat_in(most):
 def thread_parts(site):
     """The threads that use a line, those with most accesses first."""
     threads = sorted(site.threads, key=lambda thread: (-site.threads[thread], thread))
-    return listed([[Code(thread)] for thread in threads], MOST_THREADS)
+    return listed(map(Code, threads), MOST_THREADS)
 
 
 def lock_words(site):
@@ -98,19 +102,19 @@ def accesses_text(site, is_counted):
     """How often a line reads, writes and frees; of a run, whose repeats are omitted, that it does."""
     kinds = [word for word in KINDS if site.accesses[word]]
     words = [counted(site.accesses[word], KINDS[word]) if is_counted else f"{KINDS[word]}s" for word in kinds]
-    return "".join(listed([[its] for its in words], len(KINDS)))
+    return "".join(listed(words, len(KINDS)))
 
 
 def share(count, total, is_bare, threads):
     """How many of a line's accesses have a stack, which threads, and that they hold no lock where others
     do."""
-    by = [" by ", *listed([[Code(thread)] for thread in sorted(threads)], MOST_THREADS)] * bool(threads)
+    by = [" by ", *listed(map(Code, sorted(threads)), MOST_THREADS)] * bool(threads)
     return [f"{count:,} of {counted(total, 'access', 'accesses')}", *by, f", {NO_LOCK}" * is_bare]
 
 
 def partner_parts(site):
     """The lines that a line races with."""
-    return listed([[place(location)] for location in sorted(site.partners, key=by_numbers)], MOST_PARTNERS)
+    return listed(map(place, sorted(site.partners, key=by_numbers)), MOST_PARTNERS)
 
 
 def summary(view):
@@ -146,7 +150,7 @@ def notes_of(view):
                "have races.")
     if view.sections and view.stacks.numbers:
         yield COUNTS[view.of_run]
-    if view.sections and view.made.uses and not view.made.uses.are_sets_apart:
+    if view.sections and not view.made.uses.are_sets_apart:
         yield MANY_SETS
     if view.sections:
         shown = [site.location for section in view.sections
@@ -160,7 +164,7 @@ def seen_parts(section):
     frees = {site.location for site in section.sites if site.frees}
     readers = {}
     for writer, reader in section.seen:
-        readers.setdefault((reader, "freed" if writer in frees else "wrote"), []).append([place(writer)])
+        readers.setdefault((reader, "freed" if writer in frees else "wrote"), []).append(place(writer))
     for (reader, verb), writers in [*readers.items()][:MOST_SOME]:
         yield [place(reader), " read what ", *listed(writers, MOST_SOME),
                f" {verb}. This racy read may hide other races: fix it and run again."]
@@ -168,9 +172,9 @@ def seen_parts(section):
 
 def about(section):
     """All that is said of a group before its lines, each as parts."""
-    names = [[Code(name)] for name in section.group.variables]
+    names = list(map(Code, section.group.variables))
     if len(names) >= variables.MOST_VARIABLES:  # no more are known of a place
-        names[MOST_VARIABLES - 1:] = [["more"]]
+        names[MOST_VARIABLES - 1:] = ["more"]
     its = [["Variables: ", *listed(names, MOST_VARIABLES)]] * (len(names) > 1)
     return [*told_of(section), *seen_parts(section), *its]
 
@@ -179,7 +183,7 @@ def told_of(section):
     """What is said of a group's fact, each as parts: its sentences, and what would order the accesses."""
     behind = [["Seen only with the known races left out: real if those are harmless."]]
     unseen = [["Perhaps ordered: code of both sides calls, or is called by, ",
-               *listed([[Code(module)] for module in section.unseen], MOST_SOME),
+               *listed(map(Code, section.unseen), MOST_SOME),
                ", whose own atomics and futexes aren't seen."]] * bool(section.unseen)
     return [*behind * section.is_behind, *unseen, *section.fact.sentences,
             *[["Remedy: ", *section.fact.remedy]] * bool(section.fact.remedy)]

@@ -1,5 +1,6 @@
 """Several results of shb-record as one, and the overview that is made of them."""
 
+import html
 import json
 import re
 import subprocess
@@ -60,7 +61,7 @@ class Joining(farm.side_by_side.Case):
                          "app.c:1\tapp.c:2\tx\napp.c:3\tapp.c:4\ty\n")
         page = (self.folder / "all/index.html").read_text()
         self.assertIn("2 bugs in 1 file: 2 places with races", page)
-        self.assertIn("content=\"default-src 'none'; ", page)
+        self.assertIn("content=\"default-src 'none'; ", html.unescape(page))
         self.assertIn('href="../one/run1.7.html#group-1"', page)
         self.assertIn('href="../one/run1.7.html#group-2"', page)
         self.assertIn('also in <a href="../two/run2.9.html#group-1">two</a>', page)
