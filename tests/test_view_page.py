@@ -324,7 +324,7 @@ class Pictures(program.Case):
     def test_events_and_lanes(self):
         for window, found in self.pictures:
             self.assertEqual([event[0] for event in found["events"]], [*window.before, *window.accesses])
-            threads = [window.events[event[0]].event.thread for event in found["events"]]
+            threads = [window.events[event[0]].thread for event in found["events"]]
             self.assertEqual([found["lanes"][event[1]] for event in found["events"]],
                              [names.readable(thread) for thread in threads])
 
@@ -336,7 +336,7 @@ class Pictures(program.Case):
             drawn_edges = set(picture.needed(window, events))
             self.assertLessEqual(drawn_edges, set(window.edges))
             self.assertEqual(len(found["edges"]), len(drawn_edges))
-            thread, arrows = ({event: window.events[event].event.thread for event in events},
+            thread, arrows = ({event: window.events[event].thread for event in events},
                               arrows + len(drawn_edges))
             for source, event in set(window.edges) - drawn_edges:
                 dropped += 1

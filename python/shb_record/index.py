@@ -7,10 +7,10 @@ import collections
 import itertools
 
 from shb_common import known, result, sarif
+from shb_common.html import element, head, joined, with_commands
 from shb_common.locations import parts_of
 from shb_common.parts import part_of_page
 from shb_common.words import counted
-from shb_view.html import element, head, joined, with_commands
 
 HEADS = "File", "Bugs", "Places", "Runs"
 NO_BUG = "No place with a race was found."

@@ -71,17 +71,17 @@ class Kinds:
         variable = self.in_trace(variable)
         return self.locals.get(variable, variable)
 
-    def named(self, number, event):
-        """An event with its variable or its lock as the program has it: a variable that races has one name
-        at all events."""
+    def called(self, number, event):
+        """The variable or the lock of an event as the program has it: a variable that races has one name at
+        all events."""
         if event.word in (b"acq", b"rel"):
-            return event._replace(name=called(event.name, self.locks))
+            return called(event.name, self.locks)
         if event.word not in (b"r", b"w"):
-            return event
+            return event.name
         variable, sign, thread = event.name.partition(b"!")
         name = (self.locals.get(variable) if variable in self.racing
                 else self.stacks.local_of(variable, number))
-        return event._replace(name=(name or variable) + sign + thread)
+        return (name or variable) + sign + thread
 
 
 class Counting:

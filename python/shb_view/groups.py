@@ -11,8 +11,13 @@ from shb_common.variables import MOST_VARIABLES, atomic_of
 from shb_view.words import Code
 
 MOST_SHOWN = 64  # pairs of a group of which one is shown
-MEMBER = rb"[A-Za-z_]\w*"
-IN_FILE = rb"(?s).(?::[0-9]+|\+0x[0-9a-f]+)\Z"  # what the name of a block ends with, before its number
+# members and indices, looked at as a whole and not without end, so that no name takes long
+INSIDE = rb"(?=(?P<inside>(?:\.[A-Za-z_]\w*|\[[0-9]+\]){0,64}(?:\+[0-9]+)?))(?P=inside)"
+# The forms of names: what lies on a stack, a member of a block's type, anything else.
+NAMES = [re.compile(pattern, re.S) for pattern in (
+    rb"(?P<base>stack\..*)(?P<inside>-0x[0-9a-f]+)(?P<block>)(?P<of>)",
+    rb"(?P<base>(?:(?! of ).)+?)" + INSIDE + rb"(?P<of> of .*.(?::[0-9]+|\+0x[0-9a-f]+))(?P<block>#[0-9]+)",
+    rb"(?P<base>(?:(?! of .).)*?)(?P<block>(?:#[0-9]+)?)" + INSIDE + rb"(?P<of>(?: of .+)?)")]
 
 
 class Pair:
@@ -149,36 +154,7 @@ class Gathered:
 def name_parts(variable):
     """The parts of a name as the recorder writes it: its `base`, the number of its `block`, what it is
     `inside` there, as members, and the function or the place that it is `of`."""
-    base, sign, offset = variable.rpartition(b"-0x")
-    if base.startswith(b"stack.") and re.fullmatch(rb"[0-9a-f]+", offset):
-        return {"base": base, "block": b"", "inside": sign + offset, "of": b""}
-    whole, of, where = variable.partition(b" of ")
-    if not where:
-        whole, of = variable, b""
-    where, sign, number = where.rpartition(b"#")
-    is_in_block = whole and number.isdigit() and re.search(IN_FILE, where)
-    if not is_in_block:
-        where += sign + number
-    begin = inside_at(whole, 1 if is_in_block else 0)
-    base, inside = whole[:begin], whole[begin:]
-    if not is_in_block:
-        base, sign, number = base.rpartition(b"#")
-        if not sign or not number.isdigit():
-            base, sign, number = whole[:begin], b"", b""
-    return {"base": base, "block": sign + number, "inside": inside, "of": of + where}
-
-
-def inside_at(name, least):
-    """Where the members, indices and the offset begin that a name ends with, behind so many bytes."""
-    base, sign, offset = name.rpartition(b"+")
-    at = len(base) if sign and offset.isdigit() and len(base) >= least else len(name)
-    while True:
-        is_index = name[at - 1:at] == b"]"
-        begin = name.rfind(b"[" if is_index else b".", least, at)
-        its = name[begin + 1:at - is_index]
-        if begin < 0 or not (its.isdigit() if is_index else re.fullmatch(MEMBER, its)):
-            return at
-        at = begin
+    return next(filter(None, (pattern.fullmatch(variable) for pattern in NAMES))).groupdict()
 
 
 def object_of(group):

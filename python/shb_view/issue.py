@@ -18,7 +18,7 @@ def issue_lines(view, section):
     if not window:
         yield from (flat(parts) for parts in told_of(section))
         return
-    one, other = (window.events[access].event for access in window.accesses)
+    one, other = map(window.events.get, window.accesses)
     yield (f"data race on {short(view.kinds.name(one.name), NAME)}: "
            f"{flat([place(one.location), ' and ', place(other.location)])}")
     for access in window.accesses:
@@ -34,15 +34,14 @@ def issue_lines(view, section):
 def access_lines(view, window, access):
     """An access, its line of code, the locks that its thread holds, and how the thread was started."""
     shown, fork = window.events[access], window.forks[access]
-    event = shown.event
-    yield (f"  {KINDS[view.kinds.of(access, event.word, event.name)]} by "
-           f"{flat([Code(event.thread), ' at ', place(event.location)])} (event {access})")
-    code = view.source.code(event.location)
+    yield (f"  {KINDS[view.kinds.of(access, shown.word, shown.name)]} by "
+           f"{flat([Code(shown.thread), ' at ', place(shown.location)])} (event {access})")
+    code = view.source.code(shown.location)
     if code is not None:
         yield f"      {code_line(code, NAME)}"
     yield from stack_lines(view.stacks.of_event(access))
     for lock, acquire in shown.locks:
-        at = place(window.events[acquire].event.location)
+        at = place(window.events[acquire].location)
         yield f"    holds {flat([*lock_parts(lock), ', acquired at ', at])} (event {acquire})"
         yield from stack_lines(view.stacks.of_event(acquire))
     if shown.held > len(shown.locks):
@@ -50,10 +49,10 @@ def access_lines(view, window, access):
     if not shown.held:
         yield f"    {NO_LOCK}"
     if fork:
-        start = window.events[fork].event
+        start = window.events[fork]
         by = flat([Code(start.thread), " at ", place(start.location)])
         yield f"    thread started by {by} (event {fork})"
-    yield from stack_lines(view.stacks.of_thread(event.thread))
+    yield from stack_lines(view.stacks.of_thread(shown.thread))
 
 
 def stack_lines(frames):

@@ -6,13 +6,13 @@ import binascii
 import json
 import shlex
 
+from shb_common.html import Markup, element, head, joined, with_commands
 from shb_common.locations import bare, line_of
 from shb_common.parts import part_of_page
 from shb_common.sums import sha256
 from shb_common.words import counted
 from shb_view.facts import RANKS, blamed_of
 from shb_view.groups import common_name
-from shb_view.html import Markup, element, head, joined, with_commands
 from shb_view.issue import issue_lines, order_text
 from shb_view.names import code_line, readable, short
 from shb_view.picture import picture
@@ -145,20 +145,20 @@ def group_data(view, section, tables):
 def side_data(view, section, access, tables):
     """An access, and the lines of code around it from the acquire of its newest lock on."""
     window, row = section.window, section.window.events[access]
-    found, frames = view.source.place(row.event.location), view.stacks.of_event(access)
+    found, frames = view.source.place(row.location), view.stacks.of_event(access)
     locks = listed([lock_parts(lock) for lock, _ in row.locks], len(row.locks))
-    side = {"at": told([place(row.event.location)]),
-            "verb": VERBS[view.kinds.of(access, row.event.word, row.event.name)],
-            "thread": short(row.event.thread, NAME),
+    side = {"at": told([place(row.location)]),
+            "verb": VERBS[view.kinds.of(access, row.word, row.name)],
+            "thread": short(row.thread, NAME),
             "locks": told(["holding ", *locks] if locks else [NO_LOCK]), "bare": not locks,
             "stack": tables.add(frames), "fault": found.fault if found else ""}
     if found and found.line() is not None:
-        acquire = view.source.place(window.events[row.locks[-1][1]].event.location) if row.locks else None
+        acquire = view.source.place(window.events[row.locks[-1][1]].location) if row.locks else None
         head, numbers, held = excerpt(found, acquire)
         uses = [view.source.place(use.location) for pair in section.fact.pairs()
                 for use in (pair.store, pair.load)]
         atomics = {use.number for use in uses if use and use.path == found.path}
-        head = function_words(head, frames, row.event.location) if head else b""
+        head = function_words(head, frames, row.location) if head else b""
         side.update(first=numbers[0],
                     lines=[code_line(found.lines[number - 1].rstrip(), LINE) for number in numbers],
                     hit=found.number, held=list(held), atomics=sorted(atomics & set(numbers)),
@@ -169,10 +169,10 @@ def side_data(view, section, access, tables):
 def step_data(view, shown):
     """Where an event is, its line of code, and the locks that its thread holds after it."""
     locks = [name for name, _ in shown.locks if name != shown.freed]
-    locks += [shown.named.name] * (shown.event.word == b"acq" and shown.named.name not in locks)
-    code = code_line(view.source.code(shown.event.location) or b"", LINE)
+    locks += [shown.called] * (shown.word == b"acq" and shown.called not in locks)
+    code = code_line(view.source.code(shown.location) or b"", LINE)
     held = ["holding ", *listed(map(lock_parts, locks), MOST_LOCKS)] if locks else [NO_LOCK]
-    return [told([place(shown.event.location)]), code, told(held)]
+    return [told([place(shown.location)]), code, told(held)]
 
 
 def function_words(head, frames, location):
@@ -190,7 +190,7 @@ def again(view, section):
     if not view.turns:
         return judged
     first = f"shb-record --replay {shlex.quote(view.turns)}"
-    lines = dict.fromkeys(section.window.events[access].event.location for access in section.window.accesses)
+    lines = dict.fromkeys(section.window.events[access].location for access in section.window.accesses)
     stops = [f"-ex {shlex.quote('break ' + readable(line))}" for line in lines if line_of(line)]
     in_debugger = " ".join([first, "gdb", *stops, "-ex run --args", view.command])
     return [["with the same thread switches", f"{first} {view.command}"],

@@ -35,11 +35,11 @@ def picture(window, kinds):
     before = [event for event in window.before
               if event in ends or not version_of(kinds, window.events[event])]
     events = [*before, *window.accesses]
-    names = dict.fromkeys(window.events[event].event.thread for event in [*window.accesses, *before])
+    names = dict.fromkeys(window.events[event].thread for event in [*window.accesses, *before])
     lanes = {thread: lane for lane, thread in enumerate(names)}
     edges = [Edge(events.index(source), events.index(event), is_seen(window, source, event))
              for source, event in needed(window, events)]
-    drawn = Layout(len(lanes), [lanes[window.events[event].event.thread] for event in events], edges,
+    drawn = Layout(len(lanes), [lanes[window.events[event].thread] for event in events], edges,
                    bars_of(window, events, lanes, len(before)))
     return {"lanes": [short(thread, TEXT) for thread in lanes], "x": drawn.x, "texts": drawn.texts,
             "band": drawn.band, "height": drawn.band + 26 + 3 * ROW,
@@ -144,12 +144,12 @@ def most_slots(found, groups, group):
 def event_data(window, kinds, event, drawn, at):
     """An event with its lane, its height and that of its texts, what these are, and its tip."""
     shown = window.events[event]
-    does = WORDS[kinds.of(event, shown.event.word, shown.event.name)]
-    location = short(shown.event.location, TEXT) if shown.event.location else "(no location)"
+    does = WORDS[kinds.of(event, shown.word, shown.name)]
+    location = short(shown.location, TEXT) if shown.location else "(no location)"
     version = version_of(kinds, shown)
-    if version and shown.event.name.partition(b"@")[0] in kinds.stacks.atomics:
-        does = ATOMICALLY[shown.event.word]
-    name = short(shown.named.name[:version.start()] if version else shown.named.name or b"", TEXT - 9)
+    if version and shown.name.partition(b"@")[0] in kinds.stacks.atomics:
+        does = ATOMICALLY[shown.word]
+    name = short(shown.called[:version.start()] if version else shown.called or b"", TEXT - 9)
     others = [lock for lock in drawn.unnamed(at) if lock != name] if at < drawn.last else []
     number = f"{at - drawn.last + 1}  " if at >= drawn.last else ""
     return [event, drawn.events[at], drawn.y[at], drawn.text(at), f"{number}{does} {name}".rstrip(),
@@ -161,15 +161,15 @@ def gaps(window, events):
     last, found = {}, []
     for event in events:
         shown = window.events[event]
-        found.append(int(shown.previous != last.get(shown.event.thread, 0)))
-        last[shown.event.thread] = event
+        found.append(int(shown.previous != last.get(shown.thread, 0)))
+        last[shown.thread] = event
     return found
 
 
 def version_of(kinds, shown):
     """What follows the name of a lock that stands for a version of an atomic, a semaphore or the like in a
     recorded run, or nothing. Its events are drawn only where an arrow ends."""
-    of_lock = kinds.stacks.numbers and shown.event.word in (b"acq", b"rel") and shown.named.name
+    of_lock = kinds.stacks.numbers and shown.word in (b"acq", b"rel") and shown.called
     return of_lock and re.search(VERSION, of_lock)
 
 
@@ -180,7 +180,7 @@ def bars_of(window, events, lanes, last):
         shown = window.events[event]
         for lock, acquire in shown.locks[-MOST_BARS:]:
             top = bars[acquire].top if acquire in bars else rows.get(acquire, rows[event] - STUB)
-            bars[acquire] = Bar(lanes[shown.event.thread], short(lock, TEXT), top,
+            bars[acquire] = Bar(lanes[shown.thread], short(lock, TEXT), top,
                                 rows[event] + (0 if shown.freed == lock else STUB))
     return list(bars.values())
 
@@ -190,7 +190,7 @@ def needed(window, events):
     latest, found = {}, []
     for source, event in sorted(window.edges,
                                 key=lambda edge: (events.index(edge[1]), -events.index(edge[0]))):
-        threads = window.events[source].event.thread, window.events[event].event.thread
+        threads = window.events[source].thread, window.events[event].thread
         if events.index(source) > latest.get(threads, -1):
             latest[threads] = events.index(source)
             found.append((source, event))
@@ -200,7 +200,7 @@ def needed(window, events):
 def is_seen(window, source, event):
     """Whether the later event reads what the earlier one wrote."""
     later = window.events[event]
-    return later.event.word == b"r" and later.source == source
+    return later.word == b"r" and later.source == source
 
 
 def tip(shown):

@@ -37,7 +37,7 @@ def origins(view, section):
     found += told_together("block", "allocated", blocks.items())
     window = section.window
     for shown in [window.events[access] for access in window.accesses] if window else []:
-        found += [(["lock ", *lock_parts(lock), ", held at ", place(shown.event.location), ", was taken"],
+        found += [(["lock ", *lock_parts(lock), ", held at ", place(shown.location), ", was taken"],
                    view.stacks.of_event(acquire))
                   for lock, acquire in shown.locks]
     return [(list(parts), frames)

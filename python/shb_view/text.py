@@ -111,10 +111,10 @@ def window_lines(window):
     """The events before the accesses of the race that is shown of a group."""
     yield f"   Before the accesses: {'nothing' if not window.before else ''}".rstrip()
     rows = [window.events[event] for event in window.before]
-    texts = [(str(row.number), short(row.event.thread, NAME),
-              short(b"%b(%b)" % row.named[1:3] if row.named.name else row.named.word, NAME)) for row in rows]
+    texts = [(str(row.number), short(row.thread, NAME),
+              short(b"%b(%b)" % (row.word, row.called) if row.called else row.word, NAME)) for row in rows]
     widths = [max(map(columns, column)) for column in zip(*texts)]
     for row, (number, thread, operation) in zip(rows, texts):
-        location = flat([place(row.event.location)])
+        location = flat([place(row.location)])
         yield (f"     {number:>{widths[0]}}  {padded(thread, widths[1])}  {padded(operation, widths[2])}  "
                f"{location}")

@@ -8,12 +8,13 @@ from shb_view.trace import OPENS, line_of
 
 SOURCES = {b"acq": b"rel", b"r": b"w"}  # what an operation waits for or sees
 
-# An event that is shown. `named` is the event with the program's name for its variable or lock, and `line`
-# its line with that. `source` is the event of another thread that it waits for or sees: for an acquire the
+# An event that is shown. `called` is the program's name for its variable or lock, and `line` its line with
+# that. `source` is the event of another thread that it waits for or sees: for an acquire the
 # last release of the lock, for a read the last write, for a join the thread's last event; or 0. `previous` is
 # the event before it in its thread, or 0. `locks` and `held` are as `Held.newest` has them; `freed` is the
 # lock that it makes free, or None.
-Shown = collections.namedtuple("Shown", "number row line event named source previous locks held freed")
+Shown = collections.namedtuple(
+    "Shown", "thread word name location number row line called source previous locks held freed")
 
 # A race with what comes before it. `before` are the events before the accesses in the order of its schedule
 # or of the trace; `edges` are pairs of events of different threads, the earlier first; `forks` has the fork
@@ -91,9 +92,9 @@ def make_windows(trace, races, counting, order):
 
 def shown_event(number, found, kinds, moment, source):
     event = event_of(found.line)
-    named = kinds.named(number, event)
-    line = line_of(named) if named != event else found.line
-    return Shown(number, found.row, line, event, named, source, *moment)
+    name = kinds.called(number, event)
+    line = line_of(event._replace(name=name)) if name != event.name else found.line
+    return Shown(*event, number, found.row, line, name, source, *moment)
 
 
 def window(race, counting, forks, shown, order):
@@ -116,5 +117,5 @@ def window(race, counting, forks, shown, order):
 
 def stands_before(shown, event, accesses):
     """Whether neither access, nor an event after one in its thread, is this event."""
-    return all(event < access or shown[event].event.thread != shown[access].event.thread
+    return all(event < access or shown[event].thread != shown[access].thread
                for access in accesses)
