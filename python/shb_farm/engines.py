@@ -33,7 +33,7 @@ def run_xargs(work, path, options):
     say(f"{counted(count, 'trace')} with {work.memory} MiB each, {at_once} at once")
     numbers = "".join(f"{number}\n" for number in range(jobs))
     words = ["xargs", "-n", "1", "-P", str(at_once), *JOB, path, str(jobs)]
-    run_group(words, numbers, Watch(work))
+    run_group(work, words, numbers)
 
 
 def run_slurm(work, path, options):
@@ -49,7 +49,7 @@ def run_slurm(work, path, options):
     say(f"{counted(count, 'trace')} with {work.memory} MiB each, in {counted(tasks, 'task')}")
     with tempfile.TemporaryFile() as number:
         try:
-            status = run_group(words, "", Watch(work), number)
+            status = run_group(work, words, "", number)
         except (KeyboardInterrupt, SystemExit):
             subprocess.run(["scancel", f"--name={name}"])
             raise
@@ -60,22 +60,12 @@ def run_slurm(work, path, options):
 ENGINES = {"xargs": run_xargs, "slurm": run_slurm}
 
 
-class Watch:
-    """Says on a terminal how many traces of a pass are done."""
-
-    def __init__(self, work):
-        self.path, self.whole = pathlib.Path(work.room) / passes.DONE, len(work.names)
-        self.path.write_bytes(b"")
-        self.progress = Progress("shb-farm", sys.stderr)
-
-    def look(self):
-        done = min(self.path.stat().st_size, self.whole)
-        self.progress.step(f"{done:,} of {counted(self.whole, 'trace')}", done, self.whole)
-
-
-def run_group(words, given, watch, out=None):
-    """Runs a command with all that it starts in a process group, which ends when this process ends. Returns
-    its status."""
+def run_group(work, words, given, out=None):
+    """Runs a command with all that it starts in a process group, which ends when this process ends, and says
+    on a terminal how many traces of the pass are done. Returns its status."""
+    path, whole = pathlib.Path(work.room) / passes.DONE, len(work.names)
+    path.write_bytes(b"")
+    progress = Progress("shb-farm", sys.stderr)
     with tempfile.TemporaryFile("w+") as numbers:
         numbers.write(given)
         numbers.seek(0)
@@ -88,13 +78,14 @@ def run_group(words, given, watch, out=None):
             try:
                 return started.wait(LOOK_SECONDS)
             except subprocess.TimeoutExpired:
-                watch.look()
+                done = min(path.stat().st_size, whole)
+                progress.step(f"{done:,} of {counted(whole, 'trace')}", done, whole)
     except BaseException:
         os.killpg(started.pid, signal.SIGTERM)
         started.wait()
         raise
     finally:
-        watch.progress.clear()
+        progress.clear()
 
 
 def say(text):

@@ -143,12 +143,10 @@ class Conversion:
         strip = ["--strip", options.strip] if options.strip else []
         blocks = ["--blocks", process.blocks] if process.blocks else []
         left = ["--left", process.beside(".left")] if options.live else []  # blocks at its end
-        self.window, self.has_known = options.window, options.known_path is not None
-        self.is_verified = options.verify
-        self.list_words = [CONVERTER, "--list", *strip, *blocks, process.record]
-        self.page_words = [*strip, *blocks, "-n", str(options.window), process.record]
-        self.words = [CONVERTER, "--list", "--only", "/dev/stdin", "--page", self.trace, "--uses", self.uses,
-                      "--stacks", self.stacks, *left, *self.page_words]
+        self.options, self.has_known = options, options.known_path is not None
+        self.record_words = [*strip, *blocks, process.record]
+        self.list_words = [CONVERTER, "--list", *self.record_words]
+        self.words = [CONVERTER, "--list", "--page", self.trace, *left, *self.page_words()]
         # known at the end: how much there is, what is said of it, what makes it a part
         self.size, self.notes, self.cuts = "", [], []
         # `used` and `called` have what the files of a page's trace have
@@ -158,6 +156,10 @@ class Conversion:
         self.places, self.new, self.named, self.behind = [], [], [], []
         self.races, self.counts, self.events = [], None, 0  # of the run
         self.has_files = False  # are those of its page among the results?
+
+    def page_words(self):
+        return ["--only", "/dev/stdin", "--uses", self.uses, "--stacks", self.stacks,
+                "-n", str(self.options.window), *self.record_words]
 
     def find(self, choose):
         """Finds the places of the run. The page's trace then has those that `choose` returns of them."""
@@ -180,7 +182,7 @@ class Conversion:
             if fault and answer.status in (0, NOT_WHOLE, -signal.SIGPIPE):
                 raise fault
             self.end(answer)
-        if self.is_verified:
+        if self.options.verify:
             self.verify()
         if chosen:
             self.note_page(chosen)
@@ -234,7 +236,8 @@ class Conversion:
         races = [race for place in places for race in place.variables.values()]
         asked = {event for race in races for event in race.events}
         # else some may have given way
-        has_all = uses.count < self.window and max(asked) - min(asked) <= self.window
+        window = self.options.window
+        has_all = uses.count < window and max(asked) - min(asked) <= window
         lost = len(asked - uses.events.keys()) if has_all else 0
         wanted = {uses.events[event]: access for race in races
                   for event, access in zip(race.events, race.accesses) if event in uses.events}
@@ -252,9 +255,7 @@ class Conversion:
 
     def write_page(self, places):
         """Writes the trace of a page anew, around the races of these places."""
-        words = [CONVERTER, "--only", "/dev/stdin", "--uses", self.uses, "--stacks", self.stacks,
-                 *self.page_words]
-        with open(self.trace, "wb") as out, Run(words, PIPE, out, **apart()) as ran:
+        with open(self.trace, "wb") as out, Run([CONVERTER, *self.page_words()], PIPE, out, **apart()) as ran:
             ran.give(lines_of(places))
             self.end(ran.answer())
         self.note_page(places)

@@ -79,19 +79,13 @@ def cells_of(bug):
 
 def bugs(document):
     """Those with an unknown place first, in the order of a page."""
-    above, entries = {}, collections.defaultdict(list)
-
-    def top(key):
-        while key in above:
-            key = above[key]
-        return key
+    from shb_view.groups import Union    # takes its time, and a run without a place does without
+    union, entries = Union(), collections.defaultdict(list)
     for number, entry in enumerate(document["places"]):
         for key in keys_of(entry):
-            one, other = top(("place", number)), top(key)
-            if one != other:
-                above[one] = other
+            union.join(number, key)
     for number, entry in enumerate(document["places"]):
-        entries[top(("place", number))].append(entry)
+        entries[union.top(number)].append(entry)
     ways = ways_of(document["groups"])
     found = [bug_of(its, document["groups"], ways) for its in entries.values()]
     return sorted(found, key=lambda bug: (bug.rank, -bug.places, bug.name))
@@ -124,7 +118,7 @@ def ways_of(groups):
 
 def bug_of(entries, groups, ways):
     """The bug of some places, told by its largest group."""
-    from shb_view.facts import RANKS    # takes its time, and a run without a place does without
+    from shb_view.facts import RANKS
     from shb_view.groups import common_name
     from shb_view.issue import flat
     paged = sorted((entry for entry in entries if "group" in entry),

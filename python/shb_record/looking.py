@@ -69,10 +69,9 @@ class Look:
         doesn't keep others from being shown. Returns what was found in each, or None."""
         if len(self.runs) < number:
             self.runs.append([])
-        looked = [self.tried(self.analyse, Conversion(process, self.options)) for process in found]
-        if self.options.known_path:
-            looked = [one and self.tried(self.look_again, one) for one in looked]
-        looked = [one and self.tried(self.show, one) for one in looked]
+        looked = [Conversion(process, self.options) for process in found]
+        for do in (self.analyse, self.look_again, self.show):
+            looked = [one and self.tried(do, one) for one in looked]
         for process in found:
             self.source.release(process)
         return looked
@@ -86,7 +85,9 @@ class Look:
             self.fail(fault, f"{process.name}: ")
             self.say_unshown(looked)
             if os.path.exists(process.record) and os.path.getsize(process.record):
-                self.keep_failed(process)
+                self.failed += 1
+                if self.failed <= MOST_KEPT or not self.options.live:
+                    say(f"the record is kept: {self.results.keep(process.record, process.base + '.rec')}")
             return None
         if self.options.keep and do == self.show:
             self.results.keep(process.record, f"{process.base}.rec")
@@ -99,11 +100,6 @@ class Look:
         if not self.stops.first:  # else they were said before
             say_places(self.places.unknown_of(looked.new) if looked.named else as_new(looked.places),
                        f"{looked.process.name}: ", "with races that can't be shown")
-
-    def keep_failed(self, process):
-        self.failed += 1
-        if self.failed <= MOST_KEPT or not self.options.live:
-            say(f"the record is kept: {self.results.keep(process.record, process.base + '.rec')}")
 
     def stale(self):
         """The lines of the known places that matched nothing, which is asked when all places were."""

@@ -23,39 +23,32 @@ class Second:
         self.kept_before = array.array("Q")
         self.watched = {word + name + b")": name for _, name in accesses for word in (b"r(", b"w(")}
         self.reads = {race.events[1]: race for race in races if race.accesses[1].word == b"r"}
-        self.writes = {}    # by variable: its last one
 
     def places(self, conversion, room):
         """The places of the trace without these accesses, with the events' numbers in the whole trace."""
         with Run(conversion.list_words, None, PIPE, **apart()) as ran, \
                 Listing(tempfile.TemporaryFile(dir=room), PIPE) as listed:
             listed.give(self.rest(ran.out))
-            return list(map(self.in_whole, listed.places()))
-
-    def in_whole(self, place):
-        """A place with the numbers that its events have in the whole trace."""
-        return place._replace(variables={name: found._replace(events=tuple(map(self.number, found.events)))
-                                         for name, found in place.variables.items()})
+            return [place._replace(variables={
+                name: found._replace(events=tuple(map(self.number, found.events)))
+                for name, found in place.variables.items()}) for place in listed.places()]
 
     def rest(self, lines):
         """The lines that aren't left out."""
-        kept = 0
+        kept, writes = 0, {}    # by variable: its last one
         for number, line in enumerate(lines, 1):
             _, operation, location = line.split(b"|", 2)
             name = self.watched.get(operation)
             if name is not None:
-                self.look(number, operation, name)
+                if operation.startswith(b"w"):
+                    writes[name] = number
+                elif number in self.reads and self.reads[number].events[0] == writes.get(name):
+                    self.seen.append(self.reads[number].accesses)
                 if (location[:-1], name) in self.accesses:
                     self.kept_before.append(kept)
                     continue
             yield line
             kept += 1
-
-    def look(self, number, operation, name):
-        if operation.startswith(b"w"):
-            self.writes[name] = number
-        elif number in self.reads and self.reads[number].events[0] == self.writes.get(name):
-            self.seen.append(self.reads[number].accesses)
 
     def number(self, kept):
         """The number in the whole trace of an event that isn't left out."""

@@ -23,17 +23,16 @@ class Analyser:
         """`trace` is an open file."""
         self.program, self.trace = program, trace
 
-    def started(self, words, given, out, **how):
-        """A run of the program on an open file, from its beginning."""
+    def run(self, words, given, out, *more, good=(0,), **how):
+        """Runs the program on an open file, from its beginning, and returns its status. Refused if that isn't
+        one of the good ones."""
         try:
-            return Run([self.program, *words], rewound(given), out, **how)
+            with Run([self.program, *words, *more], rewound(given), out, **how) as run:
+                answer = run.answer()
         except OSError as fault:
             name, why = short(os.fsencode(self.program), MOST_SAID), fault.strerror
             raise Refused(f"`{name}` can't be run ({why}); SHB=PROGRAM names another `shb`") from None
-
-    def ended(self, words, run, good=(0,)):
-        """Waits for the end of a run, and returns its status. Refused if that isn't one of the good ones."""
-        answer = run.answer()
+        out.seek(0)
         if answer.status in good:
             return answer.status
         said = short(without_note(answer.said).rstrip(b"\n"), MOST_SAID)
@@ -54,21 +53,14 @@ class Analyser:
 
     def nearest(self, listed):
         """The report of the nearest race of each variable at each place, which it writes to an open file."""
-        self.write(LIST_VARIABLES, listed)
+        self.run(LIST_VARIABLES, self.trace, listed)
         return Report(listed)
-
-    def write(self, words, file):
-        with self.started(words, self.trace, file) as run:
-            self.ended(words, run)
-        file.seek(0)
 
     def check(self, report):
         """The verdict of `shb check` on an open report."""
-        trace = f"/dev/fd/{self.trace.fileno()}"
+        trace = self.trace.fileno()
         with tempfile.TemporaryFile() as out:
-            with self.started(["check", trace], report, out, pass_fds=[self.trace.fileno()]) as run:
-                status = self.ended(["check"], run, (0, BAD))
-            out.seek(0)
+            status = self.run(["check"], report, out, f"/dev/fd/{trace}", good=(0, BAD), pass_fds=[trace])
             verdict = out.read(MOST_BYTES)
         report.seek(0)
         said = short(verdict.rstrip(b"\n"), MOST_SAID) or f"it ended with status {status} and no word"

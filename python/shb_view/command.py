@@ -1,6 +1,7 @@
 """The words of the command, its files and its statuses."""
 
 import os
+import re
 import sys
 
 from shb_common.commands import Parser
@@ -37,6 +38,7 @@ OPTIONS = """\
 --shb PROGRAM: the `shb` to run
 TRACE: a trace, as `shb` reads it
 """
+COLOUR = "\x1b\\[[0-9]+m"  # names have no escape sign of their own
 
 
 def arguments(words, program):
@@ -60,8 +62,7 @@ def show(options, out, progress):
                   options.title)
     view = make_view(options.trace, options.stacks, asked, progress)
     for path in files:
-        with faults_of(path):
-            put(path, makers[path](view))
+        put(path, makers[path](view))
     if wants_text:
         write_text(view, out, progress, options.all)
     return view
@@ -71,8 +72,7 @@ def show_run(run, asked, page, out, progress):
     """Makes the view of a recorded run, and writes its page and its text. Returns the view."""
     try_target(page, run.trace)
     view = view_of_run(run, asked, progress)
-    with faults_of(page):
-        put(page, page_of(view))
+    put(page, page_of(view))
     write_text(view, out, progress)
     return view
 
@@ -84,8 +84,8 @@ def page_of(view):
 def write_text(view, out, progress, is_whole=False):
     progress.clear()
     is_coloured = out.isatty() and not os.environ.get("NO_COLOR") and os.environ.get("TERM") != "dumb"
-    lines = text.text_lines(view, text.Colours(is_coloured), is_whole)
-    write_texts((f"{line}\n" for line in lines), out)
+    lines = text.text_lines(view, is_whole)
+    write_texts((f"{line if is_coloured else re.sub(COLOUR, '', line)}\n" for line in lines), out)
 
 
 def try_target(path, trace):

@@ -10,12 +10,10 @@ from shb_common.variables import without_end
 from shb_common.words import Refused
 from shb_view.facts import READS, Used, renamed, used_in
 from shb_view.groups import name_parts
-from shb_view.held import Held, Operations, called
+from shb_view.held import GIVEN, Held, Operations, called
 from shb_view.trace import CHANGED, OPENS
 
 BEFORE = 6  # events of a thread right before its access
-# A lock of the trace's own: what it stands for, and the one thread that it is given to (>) or by, if any.
-GIVEN = rb"(?s)(.+)@[0-9]+(?:([<>])(.+))?"
 MOST_KINDS = 200_000  # accesses that are told apart: by group, line, thread, word and locks held
 
 # What is known of an access: the events of its thread right before it, and the newest locks held, each with

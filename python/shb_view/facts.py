@@ -130,6 +130,10 @@ class Fact(collections.namedtuple("Fact", "form said tag sentences remedy lock h
     def pairs(self):
         return [pair for _, pairs in self.handed for pair in pairs]
 
+    def uses(self):
+        """The stores and loads that hand on."""
+        return [use for pair in self.pairs() for use in pair[:2]]
+
     def of_gone(self, owner, lines):
         """The fact of lines that use a stack where its thread has a local of a system's function by then."""
         lines = sorted(lines, key=by_numbers)
@@ -149,7 +153,7 @@ class Fact(collections.namedtuple("Fact", "form said tag sentences remedy lock h
 def blamed_of(fact, locations):
     """The line that the headline names first, of racing ones and those of atomics; else one that
     it is about."""
-    known = {*locations, *(use.location for pair in fact.pairs() for use in (pair.store, pair.load))}
+    known = {*locations, *(use.location for use in fact.uses())}
     about = {line for name in ("lines", "plain", "frees") for line in fact.said.get(name, ())}
     more = [it for it in (*locations, *fact.tag) if isinstance(it, bytes) and text(it) in about]
     return next(map(bytes, (*filter(known.__contains__, fact.tag), *more)), None)
@@ -275,10 +279,11 @@ def fact_of(sites, locks, whole, published=()):
     of_locks = uncounted(used) if any(site.unknown for site in used) else lock_fact(used, racing, locks)
     if of_locks and of_locks.form == "without" and any(pair.store.kind == b"update" for pair, _ in published):
         published = ()  # beside a lock what is updated is a counter
+    if not published:
+        frees = [site for site in racing if site.frees]
+        return in_this(whole, frees and (freed_under_lock(sites, racing, frees, locks) or freed(racing, frees))
+                       or not_atomic(racing) or of_locks or no_lock(sites, racing, locks))
     found = publication(published)
-    if not found:
-        return in_this(whole, freed_under_lock(sites, racing, locks) or freed(racing) or not_atomic(racing)
-                       or of_locks or no_lock(sites, racing, locks))
     if not of_locks or of_locks.form != "without":
         return found
     also = {"form": of_locks.form, **of_locks.said}  # either of the two would fix it
@@ -293,31 +298,20 @@ def in_this(whole, fact):
 
 
 def publication(published):
-    """Between the two accesses of each race an atomic was stored by the first's thread and loaded
-    by the second's."""
-    if not published:
-        return None
-    pair = published[0][0]
-    store, load, *_ = pair
-    wrong, order = (load, "acquire") if store.gives() else (store, "release")
-    tag = worded("{} {} {} without {}", place(wrong.location), "reads" if wrong is load else "writes",
-                 Code(pair.name), order)
-    if not store.gives() and not load.takes():
-        tag += worded(", and {} reads it without acquire", place(load.location))
+    """Between the two accesses of each race an atomic was stored by the first's thread and loaded by the
+    second's."""
+    pair, _ = published[0]
+    (order, (verb, use)), *more = pair.lacking().items()
+    tag = worded(f"{{}} {verb}s {{}} without {order}", place(use.location), pair.name)
+    for order, (verb, use) in more:
+        tag += worded(f", and {{}} {verb}s it without {order}", place(use.location))
     said = [{"atomic": text(pair.store.name), "store": pair.store.said(), "load": pair.load.said(),
-             "missing": pair.lacking(), "races": races}
+             "missing": [*pair.lacking()], "races": races}
             for pair, races in published]
-    fixes = list(dict.fromkeys(fix for pair, _ in published for fix in fixes_of(pair)))
+    fixes = dict.fromkeys(tuple(worded(f"{verb} {{}} with {order} at {{}}", pair.name, place(use.location)))
+                          for pair, _ in published for order, (verb, use) in pair.lacking().items())
     return Fact("published", {"by": said}, tag, [handed_words(pair) for pair, _ in published],
                 [*listed(fixes, len(fixes)), "."])
-
-
-def fixes_of(pair):
-    """What would make a store and a load an order, each as parts."""
-    if not pair.store.gives():
-        yield "write ", Code(pair.name), " with release at ", place(pair.store.location)
-    if not pair.load.takes():
-        yield "read ", Code(pair.name), " with acquire at ", place(pair.load.location)
 
 
 def handed_words(pair):
@@ -325,15 +319,14 @@ def handed_words(pair):
     store, load = pair.store, pair.load
     return worded("{} and {} hand this on by the atomic {}: {} {} after the first access, and {} {} before "
                   "the second. Without {} that orders nothing.", Code(store.thread), Code(load.thread),
-                  Code(pair.name), place(store.location), store.words(), place(load.location), load.words(),
+                  pair.name, place(store.location), store.words(), place(load.location), load.words(),
                   " and ".join(pair.lacking()))
 
 
-def freed_under_lock(sites, racing, locks):
+def freed_under_lock(sites, racing, frees, locks):
     """Racing lines without a lock that all other lines hold: a free is a use of each variable of the block.
     A lock that each free holds comes first, then one that none does."""
-    frees = [site for site in racing if site.frees]
-    if not frees or any(site.unknown for site in sites):
+    if any(site.unknown for site in sites):
         return None
     lacking = {lock: sum(site.lacks(lock) for site in frees) for lock in by_weight(sites, locks)[0]
                if not lock.startswith(b"0x")}  # that of a library says nothing
@@ -358,11 +351,8 @@ def used_after(racing, frees):
     return [site for site in racing if site.location in found and not site.frees]
 
 
-def freed(racing):
+def freed(racing, frees):
     """Racing lines that free the block which the others use."""
-    frees = [site for site in racing if site.frees]
-    if not frees:
-        return None
     used = dict.fromkeys(partner for site in frees
                          for partner in sorted(site.partners) if partner != site.location)
     threads, at = sorted(set().union(*(site.writers for site in frees))), places(used)

@@ -167,17 +167,14 @@ def merged_groups(groups, used, facts):
                and one.fact.form != "mixed" else number)
         found.setdefault(key, []).append(one)
     merged = [parts[0] if len(parts) == 1 else facts.of(*as_one(parts)) for parts in found.values()]
-    things = {}
+    things, own = {}, []
     for one in merged:
         thing = object_of(one.group) if one.fact.form == "apart" else None
         things.setdefault(thing or id(one), []).append(one)
-    return [one for parts in things.values() for one in with_own(parts, facts)]
-
-
-def with_own(parts, facts):
-    """Groups of one object as one, if each variable has a lock of its own there; else as they are."""
-    whole = facts.of(*as_one(parts)) if len(parts) > 1 else None
-    return [whole] if whole and whole.fact.form == "without" else parts
+    for parts in things.values():
+        whole = facts.of(*as_one(parts)) if len(parts) > 1 else None
+        own += [whole] if whole and whole.fact.form == "without" else parts
+    return own
 
 
 def as_one(parts):

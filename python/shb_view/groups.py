@@ -55,15 +55,32 @@ def shown_first(race):
     return race.schedule is None, second - first, first
 
 
-class Gathered:
-    """The races of a report, as pairs and groups."""
+class Union:
+    """What belongs together, directly or by others."""
 
     def __init__(self):
+        self.above = {}  # of each another one that it belongs to, or itself
+
+    def top(self, one):
+        """What stands for all that one belongs to."""
+        above = self.above
+        while above.setdefault(one, one) is not one:
+            above[one] = one = above[above[one]]
+        return one
+
+    def join(self, one, other):
+        self.above[self.top(one)] = self.top(other)
+
+
+class Gathered(Union):
+    """The races of a report, as pairs and groups: a pair or a variable belongs to its group."""
+
+    def __init__(self):
+        super().__init__()
         self.atomics = {}  # by a name in the trace: the atomic that it is of
         self.locals = {}  # by a variable on a stack: the local that it is
         self.pairs = {}  # by the two locations, the lesser first
         self.listed = []  # those with a race that may be shown, in the order of the report
-        self.above = {}  # by pair or variable: another one of its group
         self.accesses = {}  # by event, of the races that were read
         self.events = {}  # by variable: the two events of each of these races, one after the other
 
@@ -73,7 +90,7 @@ class Gathered:
         atomic = atomic_of(first, second)
         if atomic:
             self.atomics[first.name] = atomic
-        self.above[self.top(atomic or first.name)] = self.top(self.pair_at(race.place))
+        self.join(atomic or first.name, self.pair_at(race.place))
         self.accesses.update(zip(race.events, race.accesses))
         if first.name not in self.events:
             self.events[first.name] = array.array("Q")
@@ -117,13 +134,6 @@ class Gathered:
             for race in self.races([name]):
                 found[race.place].add(name)
         return found
-
-    def top(self, one):
-        """What stands for the group of a pair or a variable."""
-        above = self.above
-        while above.setdefault(one, one) is not one:
-            above[one] = one = above[above[one]]
-        return one
 
     def name_locals(self, stacks):
         """Takes the names of locals: of a variable that is the same one at all events of its races."""

@@ -3,6 +3,7 @@
 import collections
 
 from shb_common.variables import variable_of
+from shb_view.words import Code
 
 MOST_RACES = 64  # of a place that are looked at
 MOST_NAMED = 3  # of a group
@@ -21,9 +22,9 @@ class Handed(collections.namedtuple("Handed", "store load fence name")):
         return self._replace(load=self.load._replace(order=b"both" if self.load.gives() else b"acquire"))
 
     def lacking(self):
-        """What is missing for an order."""
-        return [order for order, has in (("release", self.store.gives()), ("acquire", self.load.takes()))
-                if not has]
+        """What is missing for an order, each with what lacks it."""
+        return {**({} if self.store.gives() else {"release": ("write", self.store)}),
+                **({} if self.load.takes() else {"acquire": ("read", self.load)})}
 
     def key(self):
         return self.store.name, self.store.location, self.load.location
@@ -46,8 +47,8 @@ def handed(uses, has_frees, locals):
             for store in chain.values():
                 if (store.thread != use.thread and not (store.gives() and use.takes())
                     and (has_frees or not may_count(store, use))):
-                    pair = Handed(store, use, fence, locals.get(use.name, use.name))
-                    found[store.thread, use.thread].append(pair)
+                    name = Code(locals.get(use.name, use.name))
+                    found[store.thread, use.thread].append(Handed(store, use, fence, name))
         if use.kind in (b"store", b"exchange"):
             chains[use.name] = {way: use}
         elif use.kind == b"update":

@@ -7,8 +7,9 @@ import re
 MOST_COUNTED = 64  # locks held at an access, if their names are to be counted
 MOST_SHOWN = 8  # locks held at an event that are shown
 READ_LOCK = rb"(?s)(.+)@reader\..+"  # as the recorder names what a reader holds of a lock
-# as it names a lock that tells the order of an atomic: none of the program's
-STAND_IN = rb"(?s).+@[0-9]+(?:[<>].+)?"
+# as it names a lock that tells the order of an atomic, none of the program's: what it stands for, and the one
+# thread that it is given to (>) or by, if any
+GIVEN = rb"(?s)(.+)@[0-9]+(?:([<>])(.+))?"
 
 
 @functools.lru_cache(maxsize=65_536)
@@ -35,7 +36,7 @@ class Operations(dict):
     def __missing__(self, operation):
         word, _, name = operation[:-1].partition(b"(")
         lock = called(name, self.locals)
-        is_lock = word in (b"acq", b"rel") and not (b"@" in lock and re.fullmatch(STAND_IN, lock))
+        is_lock = word in (b"acq", b"rel") and not (b"@" in lock and re.fullmatch(GIVEN, lock))
         self[operation] = found = (word == b"acq", lock) if is_lock else None
         return found
 

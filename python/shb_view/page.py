@@ -155,8 +155,7 @@ def side_data(view, section, access, tables):
     if found and found.line() is not None:
         acquire = view.source.place(window.events[row.locks[-1][1]].location) if row.locks else None
         head, numbers, held = excerpt(found, acquire)
-        uses = [view.source.place(use.location) for pair in section.fact.pairs()
-                for use in (pair.store, pair.load)]
+        uses = [view.source.place(use.location) for use in section.fact.uses()]
         atomics = {use.number for use in uses if use and use.path == found.path}
         head = function_words(head, frames, row.location) if head else b""
         side.update(first=numbers[0],

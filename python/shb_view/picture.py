@@ -45,7 +45,7 @@ def picture(window, kinds):
             "band": drawn.band, "height": drawn.band + 26 + 3 * ROW,
             "events": [event_data(window, kinds, event, drawn, at) for at, event in enumerate(events)],
             "gaps": gaps(window, events),
-            "edges": [[drawn.path(it), *drawn.head(it), int(edge.is_seen)] for it, edge in enumerate(edges)],
+            "edges": [[*drawn.arrow(it), int(edge.is_seen)] for it, edge in enumerate(edges)],
             "bars": [[*drawn.rectangle(it), bar.name, drawn.name(it)] for it, bar in enumerate(drawn.bars)]}
 
 
@@ -59,12 +59,13 @@ class Layout:
         self.band = self.top + ROW * self.last + 6
         self.y = [self.height(min(at, self.last)) for at in range(len(events))]
         self.spans = [(bar.lane, self.height(bar.top), self.height(bar.bottom)) for bar in bars]
-        self.bar_slots = slots(self.spans)
-        self.edge_slots = slots([(self.gap(edge), self.y[edge.first], self.y[edge.second]) for edge in edges])
+        self.bar_slots, most_bars = slots(self.spans)
+        self.edge_slots, most_edges = slots(
+            [(self.gap(edge), self.y[edge.first], self.y[edge.second]) for edge in edges])
         self.x, right = [], 6
         for lane in range(lanes):
-            self.x.append(right + BAR * most_slots(self.bar_slots, [bar.lane for bar in bars], lane) + 8)
-            right = self.x[lane] + GAP + STEP * most_slots(self.edge_slots, list(map(self.gap, edges)), lane)
+            self.x.append(right + BAR * most_bars[lane] + 8)
+            right = self.x[lane] + GAP + STEP * most_edges[lane]
         self.texts = right + 4
 
     def height(self, row):
@@ -100,33 +101,21 @@ class Layout:
             event for event, lane in enumerate(self.events) if lane == bar.lane
             and min(event, self.last) >= bar.top)]
 
-    def down(self, it):
-        """Where an arrow goes down."""
-        return self.x[self.gap(self.edges[it])] + GAP + STEP * self.edge_slots[it] - 6
-
-    def ends(self, it):
-        """Left and right, where an arrow begins and where its head is."""
+    def arrow(self, it):
+        """The path of an arrow, its tip, and how far its back is from there."""
         edge = self.edges[it]
-        reach = ACCESS + 1 if edge.second >= self.last else ROUND
-        end = self.x[self.events[edge.second]]
-        return self.x[self.events[edge.first]], end - reach if self.down(it) < end else end + reach
-
-    def path(self, it):
-        edge, down, (begin, end) = self.edges[it], self.down(it), self.ends(it)
+        down = self.x[self.gap(edge)] + GAP + STEP * self.edge_slots[it] - 6
+        begin, end = self.x[self.events[edge.first]], self.x[self.events[edge.second]]
         first, second = self.y[edge.first], self.y[edge.second]
-        turn, back = ROUND if begin < down else -ROUND, ROUND if down < end else -ROUND
+        turn, way = ROUND if begin < down else -ROUND, 1 if down < end else -1
+        end -= way * (ACCESS + 1 if edge.second >= self.last else ROUND)
         return (f"M{begin} {first}H{down - turn}Q{down} {first} {down} {first + ROUND}V{second - ROUND}"
-                f"Q{down} {second} {down + back} {second}H{end}")
-
-    def head(self, it):
-        """The tip of an arrow, and how far its back is from there."""
-        _, end = self.ends(it)
-        return end, self.y[self.edges[it].second], -7 if self.down(it) < end else 7
+                f"Q{down} {second} {down + way * ROUND} {second}H{end}"), end, second, -7 * way
 
 
 def slots(spans):
-    """For each span, a group with a top and a bottom, the first place in its group where it
-    overlaps no other."""
+    """For each span, a group with a top and a bottom, the first place in its group where it overlaps no
+    other; and how many such places each group has."""
     taken, found = {}, []
     for group, top, bottom in spans:
         slot = 0
@@ -134,11 +123,7 @@ def slots(spans):
             slot += 1
         taken.setdefault((group, slot), []).append((top, bottom))
         found.append(slot)
-    return found
-
-
-def most_slots(found, groups, group):
-    return max((slot + 1 for slot, its in zip(found, groups) if its == group), default=0)
+    return found, collections.Counter(group for group, _ in taken)
 
 
 def event_data(window, kinds, event, drawn, at):

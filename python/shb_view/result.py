@@ -42,8 +42,9 @@ def entry(view, section, pair, origin, names, variables):
             found["code"] = result.text(code)
         if location in sites:
             found.update(site_entry(sites[location]))
-        found["stacks"] = [stack_entry(frames, count, view.stacks.sources) for (frames, _),
-                           count in section.callers.get(location, ())[:MOST_STACKS] if frames]
+        found["stacks"] = [
+            {"accesses": count, "frames": [frame_entry(it, view.stacks.sources) for it in frames[:MOST_FRAMES]]}
+            for (frames, _), count in section.callers.get(location, ())[:MOST_STACKS] if frames]
         accesses.append(found)
     return {"accesses": accesses,
             "variables": [{"name": name} for name in sorted({result.text(without_block(view.kinds.name(name)))
@@ -84,10 +85,6 @@ def site_entry(site):
     return {"uses": {KINDS[word]: count for word, count in sorted(site.accesses.items()) if count},
             "threads": {result.text(thread): count for thread, count in sorted(site.threads.items())},
             "locks": locks, "without_lock": site.bare}
-
-
-def stack_entry(frames, count, sources):
-    return {"accesses": count, "frames": [frame_entry(frame, sources) for frame in frames[:MOST_FRAMES]]}
 
 
 def frame_entry(frame, sources):

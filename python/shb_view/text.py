@@ -16,32 +16,28 @@ MOST_STACKS, MOST_FRAMES = 2, 8  # of a racing line; of each
 MOST_ORIGINS = 4  # threads and blocks of a group
 
 
-class Colours:
-    def __init__(self, is_coloured):
-        self.bold, self.red = (f"\x1b[{code}m{{}}\x1b[0m".format if is_coloured else str
-                               for code in ("1", "31"))
-
-
+bold, red = (f"\x1b[{code}m{{}}\x1b[0m".format for code in (1, 31))
 flat = flat_in(NAME)
 
 
-def text_lines(view, colours, is_whole):
-    """The lines of the text. `is_whole` adds the report for an issue and the events before the accesses."""
+def text_lines(view, is_whole):
+    """The lines of the text, in colours. `is_whole` adds the report for an issue and the events before the
+    accesses."""
     if view.verdict.is_good is False:
-        yield colours.red(bad_words(view))
+        yield red(bad_words(view))
     races, size = summary(view)
-    yield f"{colours.bold(f'{view.title}: {races}')} ({size})"
-    yield from map(colours.red, view.notes)
+    yield f"{bold(f'{view.title}: {races}')} ({size})"
+    yield from map(red, view.notes)
     chosen = [(number, section) for number, section in enumerate(view.sections, 1) if section.is_asked_for]
     if len(chosen) < len(view.sections):
         yield (f"Of {counted(len(view.sections), 'group')} {len(chosen):,} are shown, those with a place "
                "that is asked for.")
     for number, section in chosen:
         if number > MOST_DETAILED:
-            yield headline(number, section, colours)
+            yield headline(number, section)
             continue
         yield ""
-        yield from section_lines(view, number, section, colours)
+        yield from section_lines(view, number, section)
         if is_whole:
             yield ""
             yield from (f"   {line}".rstrip() for line in issue_lines(view, section))
@@ -53,27 +49,27 @@ def text_lines(view, colours, is_whole):
     yield from ["", *notes] if notes and view.sections else notes
 
 
-def headline(number, section, colours):
+def headline(number, section):
     name = flat(common_name(section.group.variables))
     places = counted(len(section.group.pairs), "place")
-    return colours.bold(f"{number}. {name}: {flat(section.fact.tag)}") + f" ({places})"
+    return bold(f"{number}. {name}: {flat(section.fact.tag)}") + f" ({places})"
 
 
-def section_lines(view, number, section, colours):
-    yield headline(number, section, colours)
+def section_lines(view, number, section):
+    yield headline(number, section)
     yield from (f"   {flat(parts)}" for parts in about(section))
     for site in section.sites[:MOST_SITES]:
-        yield from site_lines(view, section, site, colours)
+        yield from site_lines(view, section, site)
     if len(section.sites) > MOST_SITES:
         yield f"   and {counted(len(section.sites) - MOST_SITES, 'more line')}"
     for parts, frames in origins(view, section)[:MOST_ORIGINS]:
         yield f"   {flat(parts)} in {', from '.join(map(flat, caller_lines(frames, MOST_FRAMES)))}"
 
 
-def site_lines(view, section, site, colours):
+def site_lines(view, section, site):
     location = "(further lines)" if site.location is None else flat([place(site.location)])
     by = flat([" by ", *thread_parts(site)]) if site.location is not None else ""
-    location = colours.red(location) if site.partners else location
+    location = red(location) if site.partners else location
     yield f"   {location}: {accesses_text(site, not view.of_run)}{by}"
     code = view.source.code(site.location)
     source = view.source.place(site.location) if site.location else None

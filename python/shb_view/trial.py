@@ -183,7 +183,7 @@ def ordered(uses, pairs):
     """A release and an acquire at each pair of a store and a load: in a trace, a lock of its own."""
     before, numbers = collections.defaultdict(list), {id(use): number for number, use in enumerate(uses)}
     for lock, pair in enumerate(pairs):
-        for use in (pair.store, pair.load):
+        for use in pair[:2]:
             before[use.event].append((numbers[id(use)], use.thread, lock))
     return {event: [b"%b|%b(!%d)|" % (thread, word, lock) for _, thread, lock in sorted(its)
                     for word in (b"acq", b"rel")] for event, its in before.items()}

@@ -113,15 +113,12 @@ def view_of(file, made, kinds, asked, progress, run):
     title = readable(asked.title or os.path.basename(file.name))
     source = Source(asked.sources, os.fstat(file.fileno()).st_mtime, stacks.sources if asked.has_recorded else {})
     notes = [*map(readable, asked.notes), *warnings(file.name)]
-    sections = [with_run(advised(section, source, stacks.functions), run) for section in sections]
+    sections = [advised(section, source, stacks.functions)._replace(
+        is_asked_for=run.new is None or are_at(run.new, section), is_behind=are_at(run.behind, section))
+        for section in sections]
     return View(title, made, sum(len(group.pairs) for group in groups), count, sections, source, notes, stacks,
                 kinds, list(map(readable, run.about)), readable(run.turns), readable(run.command),
                 judge_of(made, file.name))
-
-
-def with_run(section, run):
-    return section._replace(is_asked_for=run.new is None or are_at(run.new, section),
-                            is_behind=are_at(run.behind, section))
 
 
 def of_trace(asked, file, gathered, room):
@@ -161,7 +158,7 @@ def schedules(shb, file, races, room):
     words = VARIABLES if every <= most else FULL
     analyser, report = Analyser(shb, file), room.enter_context(tempfile.TemporaryFile())
     try:
-        analyser.write(words, report)
+        analyser.run(words, file, report)
         given = Given(words, report, analyser.check(report))
         good = Report(report).races() if given.verdict.is_good else ()
         return given, {race.events: race for race in good}

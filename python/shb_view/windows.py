@@ -22,50 +22,34 @@ Shown = collections.namedtuple(
 Window = collections.namedtuple("Window", "race accesses before edges forks events schedule")
 
 
-class Moments:
-    """Notes the wanted events, and of some operations the last one before each wanted event."""
-
-    def __init__(self, wanted, sources, counting):
-        """`sources` has for an event what it waits for or sees, `w(X)` or `rel(L)`."""
-        self.wanted, self.sources, self.counting = wanted, sources, counting
-        self.tracked = set(sources.values())
-        self.moments = {}  # by event: the last four fields of `Shown`
-        self.found = {}  # by event: its source, where that is an event of another thread
-
-    def read(self, trace):
-        for part, end in trace.parts_of(self.wanted).items():
-            self.read_part(trace, part, end)
-
-    def read_part(self, trace, part, end):
-        """Reads a part from its beginning to this event."""
-        self.part, self.last = part, {}  # by thread
-        self.latest = {}  # of a tracked operation: its last event, its thread and its moment
-        self.held = collections.defaultdict(Held)  # by thread
-        wanted, tracked, last, operations = self.wanted, self.tracked, self.last, self.counting.operations
+def moments_of(trace, wanted, sources, counting):
+    """The last four fields of `Shown` of the wanted events and their sources, by event; and by event its
+    source, where that is an event of another thread. `sources` has for an event what it waits for or sees,
+    `w(X)` or `rel(L)`."""
+    moments, found, tracked = {}, {}, set(sources.values())
+    for part, end in trace.parts_of(wanted).items():
+        # by thread; `latest`: of a tracked operation its last event, its thread and its moment
+        last, held, latest = {}, collections.defaultdict(Held), {}
         for number, thread, operation, _ in trace.events("reading what comes before", part):
+            lock = counting.operations[operation] if operation[1] != OPENS else None
             if number in wanted or operation in tracked:
-                self.note(number, thread, operation)
-            lock = operations[operation] if operation[1] != OPENS else None
+                is_acquire, name = lock or (True, None)
+                freed = name if not is_acquire and held[thread].is_last_release(name) else None
+                previous = last.get(thread) or counting.last_before(part, thread)
+                moment = previous, *held[thread].newest(), freed
+                if number in wanted:
+                    moments[number] = moment
+                    source, by, its_moment = latest.get(sources.get(number), (0, thread, None))
+                    if by != thread:
+                        found[number], moments[source] = source, its_moment
+                if operation in tracked:
+                    latest[operation] = number, thread, moment
             if lock:
-                self.held[thread].take(*lock, number)
+                held[thread].take(*lock, number)
             last[thread] = number
             if number >= end:
                 break
-
-    def note(self, number, thread, operation):
-        held = self.held[thread]
-        is_acquire, lock = operation[1] != OPENS and self.counting.operations[operation] or (True, None)
-        freed = lock if not is_acquire and held.is_last_release(lock) else None
-        previous = self.last.get(thread) or self.counting.last_before(self.part, thread)
-        moment = previous, *held.newest(), freed
-        if number in self.wanted:
-            self.moments[number] = moment
-            source, by, its_moment = self.latest.get(self.sources.get(number), (0, thread, None))
-            if by != thread:
-                self.found[number] = source
-                self.moments[source] = its_moment
-        if operation in self.tracked:
-            self.latest[operation] = number, thread, moment
+    return moments, found
 
 
 def make_windows(trace, races, counting, order):
@@ -80,13 +64,11 @@ def make_windows(trace, races, counting, order):
     wanted = {*accesses, *before, *filter(None, forks.values()), *acquires, *joined.values()}
     sources = {number: b"%b(%b)" % (SOURCES[event.word], event.name)
                for number, event in events.items() if event.word in SOURCES}
-    moments = Moments(wanted, sources, counting)
-    moments.read(trace)
-    moments.found.update(joined)
-    found = trace.find(moments.moments)
-    shown = {number: shown_event(number, found[number], counting.access_kinds, moment,
-                                 moments.found.get(number, 0))
-             for number, moment in moments.moments.items()}
+    moments, seen = moments_of(trace, wanted, sources, counting)
+    seen.update(joined)
+    found = trace.find(moments)
+    shown = {number: shown_event(number, found[number], counting.access_kinds, moment, seen.get(number, 0))
+             for number, moment in moments.items()}
     return [window(race, counting, forks, shown, order) for race in races]
 
 
@@ -107,15 +89,11 @@ def window(race, counting, forks, shown, order):
             if not shown[event].previous and forks[access]:
                 starts[event] = forks[access]
         before.update(starts.values(), filter(None, (shown[event].source for event in noted.before)))
-    before = {event for event in before if stands_before(shown, event, accesses)}
+    # neither access, nor an event after one in its thread
+    before = {event for event in before
+              if all(event < access or shown[event].thread != shown[access].thread for access in accesses)}
     ordered, schedule = order(race, sorted(before))
     sources = {event: (starts.get(event, 0), 0 if event in accesses else shown[event].source)
                for event in (*ordered, *accesses)}
     edges = [(source, event) for event, found in sources.items() for source in found if source in before]
     return Window(race, accesses, ordered, edges, forks, shown, schedule)
-
-
-def stands_before(shown, event, accesses):
-    """Whether neither access, nor an event after one in its thread, is this event."""
-    return all(event < access or shown[event].thread != shown[access].thread
-               for access in accesses)

@@ -88,20 +88,24 @@ def lock_words(site):
                    for name, count in its.items())
     always = sum(-count == total for count, *_ in holds)
     shown = [*holds[:min(always, MOST_LOCKS)], *holds[always:always + MOST_SOME]]
-    found = [("some" if -count < total or how and site.wrong[name] else "held",
-              ["holds ", *lock_name(name), how + f" at {-count:,}{of}" * (-count < total)])
-             for count, name, how in shown]
-    more = len(holds) - len(shown)
-    return [*found, *[("some", [f"and {more:,} more"])] * (more > 0),
-            *[("none", [NO_LOCK]) if site.bare == total else ("some", [NO_LOCK, f" at {site.bare:,}{of}"])
-              ] * (site.bare > 0),
-            *[("some", [f"locks not counted at {site.unknown:,}{of}"])] * (site.unknown > 0)]
+    for count, name, how in shown:
+        is_some = -count < total
+        yield ("some" if is_some or how and site.wrong[name] else "held",
+               ["holds ", *lock_name(name), how + f" at {-count:,}{of}" * is_some])
+    if len(holds) > len(shown):
+        yield "some", [f"and {len(holds) - len(shown):,} more"]
+    if site.bare == total:
+        yield "none", [NO_LOCK]
+    elif site.bare:
+        yield "some", [NO_LOCK, f" at {site.bare:,}{of}"]
+    if site.unknown:
+        yield "some", [f"locks not counted at {site.unknown:,}{of}"]
 
 
 def accesses_text(site, is_counted):
     """How often a line reads, writes and frees; of a run, whose repeats are omitted, that it does."""
-    kinds = [word for word in KINDS if site.accesses[word]]
-    words = [counted(site.accesses[word], KINDS[word]) if is_counted else f"{KINDS[word]}s" for word in kinds]
+    words = [counted(site.accesses[word], kind) if is_counted else f"{kind}s" for word, kind in KINDS.items()
+             if site.accesses[word]]
     return "".join(listed(words, len(KINDS)))
 
 
@@ -148,14 +152,14 @@ def notes_of(view):
     elif not view.groups:
         yield ("Any two conflicting accesses are ordered in this trace. A run with another interleaving may "
                "have races.")
-    if view.sections and view.stacks.numbers:
+    if not view.sections:
+        return
+    if view.stacks.numbers:
         yield COUNTS[view.of_run]
-    if view.sections and not view.made.uses.are_sets_apart:
+    if not view.made.uses.are_sets_apart:
         yield MANY_SETS
-    if view.sections:
-        shown = [site.location for section in view.sections
-                 for site in section.sites[:MOST_SITES] if site.location]
-        yield from view.source.missing(shown)
+    yield from view.source.missing(site.location for section in view.sections
+                                   for site in section.sites[:MOST_SITES] if site.location)
 
 
 def seen_parts(section):
@@ -172,18 +176,22 @@ def seen_parts(section):
 
 def about(section):
     """All that is said of a group before its lines, each as parts."""
+    yield from told_of(section)
+    yield from seen_parts(section)
     names = list(map(Code, section.group.variables))
     if len(names) >= variables.MOST_VARIABLES:  # no more are known of a place
         names[MOST_VARIABLES - 1:] = ["more"]
-    its = [["Variables: ", *listed(names, MOST_VARIABLES)]] * (len(names) > 1)
-    return [*told_of(section), *seen_parts(section), *its]
+    if len(names) > 1:
+        yield ["Variables: ", *listed(names, MOST_VARIABLES)]
 
 
 def told_of(section):
     """What is said of a group's fact, each as parts: its sentences, and what would order the accesses."""
-    behind = [["Seen only with the known races left out: real if those are harmless."]]
-    unseen = [["Perhaps ordered: code of both sides calls, or is called by, ",
-               *listed(map(Code, section.unseen), MOST_SOME),
-               ", whose own atomics and futexes aren't seen."]] * bool(section.unseen)
-    return [*behind * section.is_behind, *unseen, *section.fact.sentences,
-            *[["Remedy: ", *section.fact.remedy]] * bool(section.fact.remedy)]
+    if section.is_behind:
+        yield ["Seen only with the known races left out: real if those are harmless."]
+    if section.unseen:
+        yield ["Perhaps ordered: code of both sides calls, or is called by, ",
+               *listed(map(Code, section.unseen), MOST_SOME), ", whose own atomics and futexes aren't seen."]
+    yield from section.fact.sentences
+    if section.fact.remedy:
+        yield ["Remedy: ", *section.fact.remedy]

@@ -973,7 +973,7 @@ int main(int count, char **words) {
     def test_a_page_that_contradicts_the_list(self):
         """Which places are listed is said, since no page shows it."""
         real = recorder.BUILT / "shb-std"
-        for end in "sed -i s/status.c:9/status.c:8/ $5", ": > $5":
+        for end in "sed -i s/status.c:9/status.c:8/ $3", ": > $3":
             with self.subTest(end):
                 command = self.with_converter(f'exec 4<&0\n{real} "$@" <&4 &\nexec >&- <&- 4<&-\nwait '
                                               f'$!\nstatus=$?\n{end}\nexit $status')

@@ -8,8 +8,9 @@ from shb_common.uses import Uses
 from shb_common.standard import Progress
 from shb_common.report import Report
 from shb_common.stacks import Stacks
+from shb_view.command import COLOUR
 from shb_view.result import document
-from shb_view.text import Colours, text_lines
+from shb_view.text import text_lines
 from shb_view.view import Asked, RecordedRun, view_of_run
 from test_open import planted
 from test_record import ATOMIC, HEADER, LOCK, RELAXED, entry
@@ -86,7 +87,7 @@ class Parts(recorder.Case):
                               Stacks(self.stacks, self.uses.count))
         view = view_of_run(run, Asked(recorder.SHB, True, [], False, None),
                            Progress("shb-view", io.StringIO()))
-        text = "".join(f"{line}\n" for line in text_lines(view, Colours(False), True))
+        text = re.sub(COLOUR, "", "".join(f"{line}\n" for line in text_lines(view, True)))
         return document(view), re.split(r"(?m)^(?=\d+\. )", text)
 
     def test_nothing_of_another_part_is_shown(self):
