@@ -103,8 +103,8 @@ class Refused(program.Case):
              race + "the events 3 and 4 don't conflict"),
             (b"first A|w(x)|3", b"first A|acq(x)|3",
              "line 9 of the report is `first A|acq(x)|3`; it should be `first ACCESS`"),
-            (b"race 1: 3 4", b"race 2: 3 4", "line 8 of the report has the number 2; it should be "
-                                             "`race 1: I J`"),
+            (b"race 1: 3 4", b"race 2: 3 4",
+             "line 8 of the report is `race 2: 3 4`; it should be `race 1: I J`"),
             (b"schedule 2: 1 2", b"schedule x: 1 2",
              "line 11 of the report is `schedule x: 1 2`; it should be `schedule N: N EVENTS`"),
             (b"at 3", b"at 4", "the places that the report begins with aren't those of its races"),

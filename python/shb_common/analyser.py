@@ -25,7 +25,7 @@ class Answer(collections.namedtuple("Answer", "status said seconds kib", default
 
     @property
     def words(self):
-        return " ".join(without_note(self.said)[:MOST_WORDS].decode("utf-8", "backslashreplace").split())
+        return " ".join(without_note(self.said)[:MOST_WORDS].decode(errors="backslashreplace").split())
 
 
 class Run:

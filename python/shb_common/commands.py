@@ -1,7 +1,6 @@
 """What the command lines of the commands have in common."""
 
 import argparse
-import os
 
 from shb_common.parts import installed, version
 from shb_common.standard import tell
@@ -73,7 +72,7 @@ class Parser(argparse.ArgumentParser):
         return super().format_help().replace("usage:", "Usage:", 1)
 
     def error(self, message):
-        tell(f"{self.format_usage()}{self.prog}: {printable(os.fsencode(message))}")
+        tell(f"{self.format_usage()}{self.prog}: {printable(message)}")
         self.exit(self.status)
 
     def nearest(self, word):

@@ -10,7 +10,6 @@ earlier versions wrote it, is of every variable.
 
 import collections
 import itertools
-import os
 import re
 
 from shb_common.files import read_at_most
@@ -79,6 +78,11 @@ class Side(collections.namedtuple("Side", "names functions")):
 def written(name):
     """A name as one field of a table: a tab and line ends are written as two characters."""
     return name.replace(b"\t", b"\\t").replace(b"\n", b"\\n").replace(b"\r", b"\\r")
+
+
+def table(head, rows):
+    """A table: the names of its columns with tabs between them, and rows of fields."""
+    return b"".join(b"\t".join(fields) + b"\n" for fields in [(head,), *rows])
 
 
 def line_of_fields(first, second, variable):
@@ -182,7 +186,7 @@ def read(path):
     try:
         return Known(read_at_most(path, MOST_BYTES))
     except BadLine as fault:
-        raise BadLine(f"{printable(os.fsencode(path))}, {fault}") from None
+        raise BadLine(f"{printable(path)}, {fault}") from None
 
 
 def given(path, say):

@@ -40,6 +40,10 @@ class Race(collections.namedtuple("Race", "number events accesses schedule")):
         one, other = self.accesses
         return one.location, other.location
 
+    def sides(self):
+        """Each event with its access."""
+        return zip(self.events, self.accesses)
+
     @property
     def threads(self):
         one, other = self.accesses
@@ -104,12 +108,10 @@ class Lines:
         """Says which of these lines is the first one that isn't right."""
         for line, (pattern, told) in zip(lines, form.lines):
             self.number += 1
-            match, told = re.fullmatch(pattern, line), told.format(number)
-            if not match:
-                raise BadReport(f"line {self.number} of the report is {said(line)}; it should be `{told}`")
-            if number is not None and line is lines[0] and int(match[1]) != number:
-                raise BadReport(f"line {self.number} of the report has the number {int(match[1])}; it should "
-                                f"be `{told}`")
+            match = re.fullmatch(pattern, line)
+            if not match or number is not None and line is lines[0] and int(match[1]) != number:
+                raise BadReport(f"line {self.number} of the report is {said(line)}; it should be "
+                                f"`{told.format(number)}`")
 
     def end(self):
         """Takes the last line, after which nothing stands."""

@@ -14,13 +14,13 @@ NAME, MOST_BYTES = "places.json", 1 << 30
 
 def text(name):
     """A name of a trace. Bytes that aren't UTF-8 are written as `\\xff`."""
-    return name.decode("utf-8", "backslashreplace")
+    return name.decode(errors="backslashreplace")
 
 
 def name_of(text):
     """The name that was written as this text."""
     return re.sub(rb"\\x([89a-f][0-9a-f])", lambda found: bytes([int(found[1], 16)]),
-                  text.encode("utf-8", "surrogatepass"))
+                  text.encode(errors="surrogatepass"))
 
 
 def access(name, location, in_trace, event=None, read=None):
@@ -89,7 +89,7 @@ def read(path, look=lambda entry: entry["accesses"]):
         return found
     except (ValueError, KeyError, TypeError, AttributeError, RecursionError) as fault:
         said = str(fault) if isinstance(fault, ValueError) else "a part of it is missing, or of another kind"
-        raise Refused(f"{printable(os.fsencode(path))}: {said}") from None
+        raise Refused(f"{printable(path)}: {said}") from None
 
 
 def parsed(text):

@@ -52,10 +52,9 @@ class AtomicUse(collections.namedtuple("AtomicUse", "event name thread location 
 
     def words(self):
         """What it does, as parts."""
-        does = {b"load": "reads it", b"store": "writes it", b"exchange": "exchanges it",
-                b"update": "updates it"}[self.kind]
-        return [does, {b"relaxed": " relaxed", b"acquire": " with acquire", b"release": " with release",
-                       b"both": " with acquire and release"}[self.order]]
+        does = {b"load": "reads", b"store": "writes", b"exchange": "exchanges", b"update": "updates"}[self.kind]
+        order = self.order.decode().replace("both", "acquire and release")
+        return [f"{does} it", " relaxed" if order == "relaxed" else f" with {order}"]
 
     def said(self):
         """The same for programs."""
@@ -138,13 +137,10 @@ class Stacks:
         elif kind == b"line":
             self.sums[first] = sum_of(second)
         else:
-            self.take_frame(first, second, kind == b"system-frame")
-
-    def take_frame(self, function, location, in_system):
-        self.frames.append(Frame(function, location, in_system))
-        if function and line_of(location):
-            self.functions.setdefault(location, set()).add(bare(function))
-        self.files.add(parts_of(location)[0])
+            self.frames.append(Frame(first, second, kind == b"system-frame"))
+            if first and line_of(second):
+                self.functions.setdefault(second, set()).add(bare(first))
+            self.files.add(parts_of(second)[0])
 
     def local_of(self, variable, event):
         """The local that a variable on a stack is at an event, or the member that one in a block is."""

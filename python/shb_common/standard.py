@@ -20,9 +20,12 @@ def open_standard_files():
         except OSError:
             os.set_inheritable(os.open(os.devnull, os.O_RDWR), True)
     sys.stdin = sys.stdin or open(os.devnull, encoding="utf-8")
-    sys.stdout = sys.stdout or open(os.devnull, "w", encoding="utf-8")
-    sys.stderr = sys.stderr or open(os.devnull, "w", encoding="utf-8")
+    sys.stdout, sys.stderr = sys.stdout or nowhere(), sys.stderr or nowhere()
     return is_open
+
+
+def nowhere():
+    return open(os.devnull, "w", encoding="utf-8")
 
 
 def tell(text):
@@ -35,7 +38,7 @@ def tell(text):
 
 def leave_standard_error():
     """What is still said is lost. Programs that are started later have the old one."""
-    sys.stderr = open(os.devnull, "w", encoding="utf-8")
+    sys.stderr = nowhere()
 
 
 def leave_standard_output():
@@ -70,7 +73,7 @@ def write_texts(texts, out):
 def words_of(fault):
     """What a fault says; one of the system with the file that it names."""
     words, name = getattr(fault, "strerror", None) or str(fault), getattr(fault, "filename", None)
-    return (f"{printable(os.fsencode(name))}: {words}" if isinstance(name, (str, bytes, os.PathLike))
+    return (f"{printable(name)}: {words}" if isinstance(name, (str, bytes, os.PathLike))
             else words)
 
 

@@ -1,5 +1,7 @@
 """What commands say: how many, names as a reader sees them, and why something can't be done."""
 
+import os
+
 SIGNS = str.maketrans({"&": "&amp;", "<": "&lt;", ">": "&gt;", '"': "&quot;", "'": "&#x27;"})
 
 
@@ -18,7 +20,8 @@ def in_html(text):
 
 
 def printable(text, most=None):
-    """The text on a terminal: what doesn't print is escaped. Of more than `most` columns the first ones."""
-    found = text.decode("utf-8", "backslashreplace")
+    """The text on a terminal, or a path: what doesn't print is escaped. Of more than `most` columns the first
+    ones."""
+    found = os.fsencode(text).decode(errors="backslashreplace")
     found = "".join(sign if sign.isprintable() else sign.encode("unicode_escape").decode() for sign in found)
     return found if most is None or len(found) <= most else found[:most - 2] + ".."

@@ -36,7 +36,7 @@ class Calls:
         if path not in self.damaged:
             self.damaged.add(path)
             said = fault.strerror if isinstance(fault, OSError) else fault
-            tell(f"shb-farm: {printable(os.fsencode(path))}: {said}; its call stacks are left out")
+            tell(f"shb-farm: {printable(path)}: {said}; its call stacks are left out")
 
     def accesses_of(self, rows, out):
         """By the key of each row whose example has stacks and a report: the two accesses of a race there."""
@@ -83,7 +83,7 @@ def accesses_in(report, pairs, path):
             if pair in pairs and pair not in found:
                 found[pair] = tuple(
                     Access(one.thread, b"%b(%b)" % (one.word, one.name), calls.of_event(event), calls.sources)
-                    for event, one in zip(race.events, race.accesses))
+                    for event, one in race.sides())
     return found
 
 

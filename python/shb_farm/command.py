@@ -83,11 +83,11 @@ OUT: the folder for outcomes and tables
 
 
 def arguments(words):
-    parser, least = Parser("shb-farm", ABOUT, NOTES, usage="shb-farm [OPTION].. TRACES OUT"), number(1)
+    parser = Parser("shb-farm", ABOUT, NOTES, usage="shb-farm [OPTION].. TRACES OUT")
+    numbers = {"jobs": len(os.sched_getaffinity(0)), "memory": 1024, "seconds": 3600, "size": 1024}
     parser.add(OPTIONS, engine={"choices": sorted(engines.ENGINES), "default": "xargs", "metavar": None},
-               jobs={"type": least, "default": len(os.sched_getaffinity(0))},
-               memory={"type": least, "default": 1024}, seconds={"type": least, "default": 3600},
-               size={"type": least, "default": 1024}, sbatch={"type": shell_words, "default": []})
+               sbatch={"type": shell_words, "default": []},
+               **{name: {"type": number(1), "default": its} for name, its in numbers.items()})
     return parser.parsed(joined(words))
 
 

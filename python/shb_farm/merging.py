@@ -16,19 +16,17 @@ Ending = collections.namedtuple("Ending", "kind words places size cost", default
 
 def ending_of(work, name, outside=()):
     """How a trace ended under the limits of this pass. `outside` are links that aren't followed."""
-    if name in outside:
-        return Ending("refused", traces.LEADS_OUT, [], None)
     path = pathlib.Path(work.traces) / name
     try:
         state = os.stat(path)
+        why = (traces.LEADS_OUT if name in outside else "not a regular file" if not stat.S_ISREG(state.st_mode)
+               else "" if os.access(path, os.R_OK) else "Permission denied")
     except OSError as fault:
-        # nobody will find what a link doesn't lead to
-        kind = "refused" if os.path.islink(path) else "missing"
-        return Ending(kind, fault.strerror, [], None)
-    if not stat.S_ISREG(state.st_mode):
-        return Ending("refused", "not a regular file", [], None)
-    if not os.access(path, os.R_OK):
-        return Ending("refused", "Permission denied", [], None)
+        if not os.path.islink(path):    # nobody will find what a link doesn't lead to
+            return Ending("missing", fault.strerror, [], None)
+        why = fault.strerror
+    if why:
+        return Ending("refused", why, [], None)
     outcome = outcomes.read(passes.outcome_path(work.out, work.form, name), name)
     size = state.st_size
     if outcome is None:

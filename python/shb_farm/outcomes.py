@@ -72,8 +72,8 @@ def place_of(fields):
 
 
 def text(name):
-    return name.decode("utf-8", "surrogateescape")
+    return name.decode(errors="surrogateescape")
 
 
 def raw(name):
-    return name.encode("utf-8", "surrogateescape")
+    return name.encode(errors="surrogateescape")

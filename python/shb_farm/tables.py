@@ -32,23 +32,19 @@ def variables_of(row):
 
 def places_table(found):
     """A line for each two locations; FARM.md has its fields."""
-    lines = [b"traces\tstate\tfirst\tsecond\texample\treport\tvariables\n"]
-    for row in found.rows:
-        fields = [b"%d" % row.traces, field(row.state()), *row.names, field(row.example), field(row.report),
-                  variables_of(row)]
-        lines.append(b"\t".join(fields) + b"\n")
-    return b"".join(lines)
+    rows = ([b"%d" % row.traces, field(row.state()), *row.names, field(row.example), field(row.report),
+             variables_of(row)] for row in found.rows)
+    return known.table(b"traces\tstate\tfirst\tsecond\texample\treport\tvariables", rows)
 
 
 def traces_table(endings):
     """A line for each trace: how it ended, its places, the words of its outcome, and what it cost."""
-    lines = [b"trace\toutcome\tplaces\twords\tseconds\tMiB\n"]
+    rows = []
     for name, ending in endings.items():
         places = b"%d" % count(ending.places) if ending.kind == "report" else b""
         cost = ending.cost and (b"%.2f" % ending.cost.seconds, b"%d" % (ending.cost.kib // 1024))
-        fields = [field(name), field(ending.kind), places, field(ending.words), *(cost or (b"", b""))]
-        lines.append(b"\t".join(fields) + b"\n")
-    return b"".join(lines)
+        rows.append([field(name), field(ending.kind), places, field(ending.words), *(cost or (b"", b""))])
+    return known.table(b"trace\toutcome\tplaces\twords\tseconds\tMiB", rows)
 
 
 def why(ending):
@@ -129,7 +125,7 @@ def write(out, room, found, sources, stacks):
     facts = "".join(f"{name}\t{count}\n" for name, count in found.facts.items()).encode()
     files = {"places.tsv": places_table(found), "traces.tsv": traces_table(found.endings),
              "facts.tsv": facts, "unknown.places": unknown_places(found.rows),
-             "places.txt": said.encode("utf-8", "surrogateescape"),
+             "places.txt": said.encode(errors="surrogateescape"),
              "places.json": result.in_bytes(document(found, entries)),
              "places.sarif": log(found, sources, entries, stacks.accesses_of(found.rows, out))}
     for name, content in files.items():

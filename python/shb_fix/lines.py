@@ -1,11 +1,11 @@
 """From lines to events: marks, blanks, comments and other spellings."""
 
-from shb_common.refused import MARK, hint_of, other_kind
+from shb_common.refused import MARK, WORDS, hint_of, other_kind
 from shb_common.words import printable
 from shb_fix.events import Event
 
-NAMED = {b"r", b"w", b"acq", b"rel", b"fork", b"join"}
 MARKS = {b"begin", b"end", b"branch"}
+NAMED = WORDS - MARKS
 FOREIGN = {b"vr", b"vw", b"rdlock", b"wrlock", b"rdunlock", b"wrunlock", b"wait", b"notify", b"notifyall"}
 SPELLINGS = {
     b"read": b"r", b"rd": b"r", b"write": b"w", b"wr": b"w", b"start": b"fork", b"enterbegin": b"begin",

@@ -4,6 +4,7 @@ import collections
 
 from shb_fix.events import Event, OWN
 
+RELEASED = ", and its release wasn't logged: it is released right before"
 VOLATILE, READER = OWN.encode() + b"volatile.", OWN.encode() + b"reader."
 
 # Forms that are translated, of one event and of several.
@@ -137,13 +138,11 @@ class Sections:
             held = [lock for lock, holder in self.holder.items() if holder == event.name]
             for _ in held:
                 self.repairs.note(event.line, "joins a thread that holds a lock",
-                                  "the thread holds a lock, and its release wasn't logged: it is released "
-                                  "right before", True)
+                                  f"the thread holds a lock{RELEASED}", True)
             return [it for lock in held for it in self.released(lock, event.location)]
         if event.word == b"acq" and self.holder.get(event.name) not in (None, event.thread):
             self.repairs.note(event.line, "acquires a lock that another thread holds",
-                              "another thread holds this lock, and its release wasn't logged: it is released "
-                              "right before", True)
+                              f"another thread holds this lock{RELEASED}", True)
             return self.released(event.name, event.location)
         return []
 

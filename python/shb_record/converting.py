@@ -240,7 +240,7 @@ class Conversion:
         has_all = uses.count < window and max(asked) - min(asked) <= window
         lost = len(asked - uses.events.keys()) if has_all else 0
         wanted = {uses.events[event]: access for race in races
-                  for event, access in zip(race.events, race.accesses) if event in uses.events}
+                  for event, access in race.sides() if event in uses.events}
         at, of_list = 0, "of `shb places --list`"
         with open(self.trace, "rb") as trace:
             for number in sorted(wanted):

@@ -26,7 +26,7 @@ def join(options):
     documents = [result.read(path, row_of) for path in paths]
     for path, its in zip(paths, documents):
         if its.get("command") != "shb-record":
-            raise Refused(f"{printable(os.fsencode(path))}: it isn't of shb-record")
+            raise Refused(f"{printable(path)}: it isn't of shb-record")
     results = Results(options.folder, "--join")
     joined, rows = joined_of(paths, documents, results.folder)
     summary, recordings = joined["summary"], counted(len(paths), "recording")

@@ -12,7 +12,7 @@ from shb_record.converting import CRASHED, KILLED, Contradiction, Conversion, ch
 from shb_record.modules import Modules
 from shb_record.parts import ANALYSER, now, say
 from shb_record.places import New, Places
-from shb_record.running import PRELOADED, cause
+from shb_record.running import cause, preloading
 
 KINDS = {b"r": "read", b"w": "written"}
 TOLD = 10     # of so many runs one with nothing new is said
@@ -57,8 +57,8 @@ class Look:
         self.is_cut |= self.source.dropped > 0
         if not self.options.live and not any(one is None or one.events for one in looked):
             if self.is_cut:
-                words = shlex.join(["shb-record", "env", f"LD_PRELOAD={PRELOADED}", *self.options.words])
                 late = any(one and LATE in cut for one in looked for cut in one.cuts)
+                words = preloading(*self.options.words)
                 hint = f"; for a module with hooks that the program loads later run `{words}`"
                 raise Refused("nothing of the run was recorded" + hint * late)
             say(f"run {number}: {counted(len(looked), 'recorded process', 'recorded processes')}, none with "

@@ -124,9 +124,10 @@ def named(place, tables, numbers):
 
 def table(rows):
     """A line for each two locations, below the names of the columns."""
-    yield b"first\tsecond\tvariables\tstate\tevent\tand event\tprocess\ttrace\n"
+    lines = []
     for row in rows:
         process, trace = row.example
         names = b", ".join(known.written(name) for name, _ in row.variables) + b", .." * row.has_more
         words = row.state(), *map(str, row.race.events), process, os.path.basename(trace)
-        yield b"\t".join([*row.names, names, *map(os.fsencode, words)]) + b"\n"
+        lines.append([*row.names, names, *map(os.fsencode, words)])
+    return known.table(b"first\tsecond\tvariables\tstate\tevent\tand event\tprocess\ttrace", lines)

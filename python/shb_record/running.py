@@ -147,28 +147,31 @@ def children():
 MARKS = {b"Go build ID": "Go", b"/rustc/": "Rust"}  # that compilers leave in a program
 
 
+def preloading(*words):
+    """The command that records a program which loads our library first."""
+    return shlex.join(["shb-record", "env", f"LD_PRELOAD={PRELOADED}", *words])
+
+
 def cause(program):
     """Why the program left no record, as its file tells, in sentences."""
-    import mmap  # most calls do without
     path = shutil.which(program)
     with open(path, "rb") as file:
-        if file.read(4) != b"\x7fELF":
-            return "No program that it started was compiled with -fsanitize=thread."
-        with mmap.mmap(file.fileno(), 0, access=mmap.ACCESS_READ) as content:
-            has_hooks, has_library = content.find(b"__tsan_init") >= 0, content.find(b"libtsan.so") >= 0
-            languages = [language for mark, language in MARKS.items() if content.find(mark) >= 0]
-            has_asan = content.find(b"__asan_init") >= 0
+        content = file.read()
+    if not content.startswith(b"\x7fELF"):
+        return "No program that it started was compiled with -fsanitize=thread."
+    has_library = b"libtsan.so" in content
+    languages = [language for mark, language in MARKS.items() if mark in content]
     kind = told(os.fsencode(os.path.realpath(path)), "kind")
     if kind and b"program" not in kind:
         return "It is statically linked: link it dynamically, without -static."
     if any(name == b"libc.so" or name.startswith(b"libc.musl") for name in kind[b"library"]):
         return "It is linked with musl: the recorder needs glibc."
-    if has_asan:
+    if b"__asan_init" in content:
         return "It is built for AddressSanitizer: build it with -fsanitize=thread alone."
-    if not has_hooks:
-        words = shlex.join(["shb-record", "env", f"LD_PRELOAD={PRELOADED}", program])
-        return (f"Was it compiled and linked with -fsanitize=thread? If only a plug-in was, run `{words}`. "
-                "If it starts such a program, it must pass on SHB_RECORD and LD_LIBRARY_PATH.")
+    if b"__tsan_init" not in content:
+        return ("Was it compiled and linked with -fsanitize=thread? If only a plug-in was, run "
+                f"`{preloading(program)}`. If it starts such a program, it must pass on SHB_RECORD and "
+                "LD_LIBRARY_PATH.")
     if not has_library and languages:
         return (f"It has code in {languages[0]}, whose compiler links ThreadSanitizer's own library. C and "
                 "C++ programs are recorded.")

@@ -27,7 +27,7 @@ def tables_of(look, rows, status):
 
 def written(title, its, rows):
     """The tables of a document, by their names. `rows` are those of its entries."""
-    return {"unknown.places": unknown_places(rows), "places.tsv": b"".join(table(rows)),
+    return {"unknown.places": unknown_places(rows), "places.tsv": table(rows),
             "places.json": result.in_bytes(its), "places.sarif": log(its, rows),
             "index.html": index(title, its)}
 
@@ -50,7 +50,7 @@ def counts(rows):
 def entry(look, row, found):
     """A row with the two accesses of its first race, what the view found, and the processes that have it."""
     process, trace = row.example
-    reads = list(zip(row.race.events, row.race.accesses))
+    reads = list(row.race.sides())
     if row.race.accesses[0].location != row.texts[0]:
         reads.reverse()
     return result.entry(row, found, reads, process=process, trace=os.path.basename(trace),

@@ -27,7 +27,7 @@ def advised(section, source, functions):
     if both:
         remedy = worded("hold {} from {} to {}: what was read may have changed in between.",
                         lock_name(fact.lock), *map(place, both))
-        fact = fact._replace(said={**fact.said, "check": list(map(text, both))}, remedy=remedy)
+        fact = fact.saying({"check": list(map(text, both))}, remedy=remedy)
     return section._replace(fact=fact)
 
 
@@ -35,7 +35,7 @@ def checks(section, source, functions):
     """Racing lines that decide by what they read without the lock, each with the next line of its function
     where a thread of its uses the same with it."""
     def is_after(one, other):
-        places = [line_of(site.location or b"") for site in (one, other)]
+        places = [line_of(site.name) for site in (one, other)]
         return all(places) and places[0][0] == places[1][0] and places[0][1] < places[1][1]
 
     for site in section.sites:

@@ -20,9 +20,6 @@ MOST_KINDS = 200_000  # accesses that are told apart: by group, line, thread, wo
 # its acquire.
 Noted = collections.namedtuple("Noted", "before locks")
 
-# An event that was counted. `free` is the number of the free that it is of, or None.
-Access = collections.namedtuple("Access", "number variable kind free")
-
 # The event of a thread in which it creates or joins another one.
 Step = collections.namedtuple("Step", "thread event line")
 
@@ -99,7 +96,7 @@ class Counting:
         self.held, self.operations = collections.defaultdict(Held), Operations(kinds.locks)  # by thread
         # by thread: its last events
         self.recent = collections.defaultdict(lambda: collections.deque(maxlen=BEFORE))
-        self.before = {}  # by group and thread: its last access
+        self.before = {}  # by group and thread: its last access that was counted
         self.writes = {}  # by variable: its last write
         self.sources = {}  # by a racing read: the write that it saw, or None
         # By variable and location: the stacks of the accesses, each with whether no lock is held.
@@ -214,23 +211,23 @@ class Counting:
             if stacks.numbers:
                 self.callers[of, location][stacks.numbers[number - 1], not held.locks] += 1
             free, of = (stacks.free_of(number), b"") if word == b"f" else (None, of)
-            self.count(group, Access(number, variable, (location, thread, word, held.names(), of), free))
+            self.count(group, number, variable, (location, thread, word, held.names(), of), free)
 
-    def count(self, group, access):
+    def count(self, group, number, variable, kind, free):
         """Counts an access, but for what is of the same one as the event before it: a free writes each
         variable of the block, and a plain read of an atomic reads what each thread wrote. An atomic write
-        reads what plain accesses write."""
-        counts, kind = self.counts[group], access.kind
-        _, thread, word, *_ = kind
-        last, self.before[group, thread] = self.before.get((group, thread)), access
-        is_next = last is not None and self.recent[thread][-1] == last.number
-        if word == b"f" and last and access.free == last.free:
+        reads what plain accesses write. `free` is the number of the free that it is of, or None."""
+        counts, (_, thread, word, *_) = self.counts[group], kind
+        last, last_variable, last_kind, last_free = self.before.get((group, thread), [None] * 4)
+        self.before[group, thread] = number, variable, kind, free
+        is_next = last is not None and self.recent[thread][-1] == last
+        if word == b"f" and free == last_free:
             return
-        if (is_next and word == b"r" and kind == last.kind and access.variable in self.access_kinds.atomics
-            and access.variable != last.variable):
+        if (is_next and word == b"r" and kind == last_kind and variable in self.access_kinds.atomics
+            and variable != last_variable):
             return
-        if is_next and word == b"a" and last.kind == (*kind[:2], b"r", *kind[3:]):
-            counts[last.kind] -= 1
+        if is_next and word == b"a" and last_kind == (*kind[:2], b"r", *kind[3:]):
+            counts[last_kind] -= 1
         if kind not in counts and self.kinds == MOST_KINDS:
             kind = (None, b"", word, None, b"")
         elif kind not in counts:

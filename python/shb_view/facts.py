@@ -42,7 +42,7 @@ class Site:
     """A line that uses the variables, with what is counted there."""
 
     def __init__(self, location):
-        self.location, self.total = location, 0
+        self.location, self.name, self.total = location, location or b"", 0
         # how many accesses there are of each word and thread, how many hold each lock, but not for reading,
         # how many hold it for reading, and how many of these write
         self.accesses, self.threads, self.locks, self.reading, self.wrong = (
@@ -134,20 +134,24 @@ class Fact(collections.namedtuple("Fact", "form said tag sentences remedy lock h
         """The stores and loads that hand on."""
         return [use for pair in self.pairs() for use in pair[:2]]
 
+    def saying(self, said, **more):
+        """The same with more that is said for programs, and other fields."""
+        return self._replace(said={**self.said, **said}, **more)
+
     def of_gone(self, owner, lines):
         """The fact of lines that use a stack where its thread has a local of a system's function by then."""
         lines = sorted(lines, key=by_numbers)
         tag = worded("{} {} a local of {} that is gone", places(lines), does("use", lines), Code(owner))
         said = worded("In a race {} is in a function of the system, whose local lies there.", Code(owner))
-        return self._replace(said={**self.said, "gone": list(map(text, lines))}, tag=tag, remedy=[],
-                             sentences=[*self.sentences, said])
+        return self.saying({"gone": list(map(text, lines))}, tag=tag, remedy=[],
+                           sentences=[*self.sentences, said])
 
     def refuting(self, pair):
         """The fact of variables that race with an order of a store and a load too, without general advice."""
         said = worded("A release at {} and an acquire at {} may leave a race.", place(pair.store.location),
                       place(pair.load.location))
-        return self._replace(said={**self.said, "is_refuted": True}, sentences=[*self.sentences, said],
-                             remedy=[] if self.form in ("no-lock", "apart") else self.remedy)
+        return self.saying({"is_refuted": True}, sentences=[*self.sentences, said],
+                           remedy=[] if self.form in ("no-lock", "apart") else self.remedy)
 
 
 def blamed_of(fact, locations):
@@ -266,7 +270,7 @@ def sites_of(group, used, *words):
         for first, second in pair.places:
             if first in sites:
                 sites[first].later.add(second)
-    order = sorted(sites.values(), key=lambda site: (site.location is None, by_numbers(site.location or b"")))
+    order = sorted(sites.values(), key=lambda site: (site.location is None, by_numbers(site.name)))
     return (sorted(order, key=lambda site: (site.location not in racing, not site.writes(), -site.total)),
             locks)
 
@@ -287,8 +291,7 @@ def fact_of(sites, locks, whole, published=()):
     if not of_locks or of_locks.form != "without":
         return found
     also = {"form": of_locks.form, **of_locks.said}  # either of the two would fix it
-    return found._replace(said={**found.said, "also": also},
-                          sentences=[*found.sentences, *in_this(whole, of_locks).sentences])
+    return found.saying({"also": also}, sentences=[*found.sentences, *in_this(whole, of_locks).sentences])
 
 
 def in_this(whole, fact):
@@ -339,15 +342,14 @@ def freed_under_lock(sites, racing, frees, locks):
     is_kept = not lacking[found.lock]
     until = ", and as long as the block is used" if is_kept else ", and don't use it after the free"
     after = used_after(racing, frees)
-    return found._replace(said={**found.said, "frees": names_of(frees), "after": names_of(after)},
-                          sentences=[*found.sentences, *[warning] * is_kept,
-                                     *[worded(USED, after)] * bool(after)],
-                          remedy=[*found.remedy[:-1], f"{until}."])
+    return found.saying({"frees": names_of(frees), "after": names_of(after)},
+                        sentences=[*found.sentences, *[warning] * is_kept, *[worded(USED, after)] * bool(after)],
+                        remedy=[*found.remedy[:-1], f"{until}."])
 
 
 def used_after(racing, frees):
     """Racing lines with a use that came after a free in a race that was read."""
-    found = set().union(*(site.later for site in frees if site.frees == site.total))
+    found = union(site.later for site in frees if site.frees == site.total)
     return [site for site in racing if site.location in found and not site.frees]
 
 
@@ -355,7 +357,7 @@ def freed(racing, frees):
     """Racing lines that free the block which the others use."""
     used = dict.fromkeys(partner for site in frees
                          for partner in sorted(site.partners) if partner != site.location)
-    threads, at = sorted(set().union(*(site.writers for site in frees))), places(used)
+    threads, at = sorted(union(site.writers for site in frees)), places(used)
     sentence = worded("{} {} the block at {}, and nothing orders the free and {}.", places(threads),
                       does("free", threads), frees,
                       worded("the use at {}", at) if used else "another free of it")
@@ -441,7 +443,7 @@ def without(sites, racing, lock, locks):
     Where they hold other locks, that more lines have this one says that it is theirs too."""
     lacking = [site for site in racing if site.lacks(lock)]
     holding = [site for site in sites if not site.lacks(lock)]
-    variables = set().union(*(site.variables for site in racing)) - {b""}
+    variables = union(site.variables for site in racing) - {b""}
     if not is_rule(lacking, holding, variables, lock, is_beside(locks, lock, variables)):
         return None
     scope = scope_of([site for site in sites if site.lacks(lock) and not site.partners], lacking, holding)
@@ -451,7 +453,7 @@ def without(sites, racing, lock, locks):
     name, verb, total = lock_name(lock), verb_of(lacking), sum(site.total for site in lacking)
     at = f" at {total - sum(site.guards[lock] for site in lacking):,} of {total:,} accesses" if some else ""
     sentence = worded("{} holds {}, and {} {} without it{}.", who, name, lacking, verb, at)
-    instead = [worded("{} holds {}", place(site.location), held_at(site)) for site in lacking if site.held]
+    instead = holds([site for site in lacking if site.held])
     if instead:
         sentence += [" ", *listed(instead, MOST_NAMED), "."]
     said = {"lines": names_of(lacking), "sometimes": names_of(some), "scope": scope,
@@ -488,7 +490,7 @@ def is_rule(lacking, holding, variables, lock, is_member):
     (`is_member`); the others hold no lock, or are fewer, or hold this one at times, but not one of several
     whose names differ by numbers alone."""
     holding = [site for site in holding if not site.fills()]
-    holders = set().union(*(site.variables for site in holding))
+    holders = union(site.variables for site in holding)
     holders |= variables if b"" in holders else set()  # a free uses each variable of the block
     if not lacking or not holding or not variables <= holders:
         return False
@@ -527,7 +529,7 @@ def sometimes(sites, racing, lock, locks):
         return None
     counts = [[f"{site.guards[lock]:,} of {counted(site.total, 'access', 'accesses')} at ",
                place(site.location)] for site in some]
-    lines = {text(site.location or b""): [site.guards[lock], site.total] for site in some}
+    lines = {text(site.name): [site.guards[lock], site.total] for site in some}
     name = lock_name(lock)
     return Fact("sometimes", {"lines": lines, **said_of(lock, locks)},
                 worded("{}{}{}", some, not_always(some), name),
@@ -553,13 +555,16 @@ def held_at(site):
         "a lock, but not the same each time")
 
 
+def holds(sites):
+    return [worded("{} holds {}", place(site.location), held_at(site)) for site in sites]
+
+
 def apart(racing, locks):
     """No lock is held at every access of all racing lines."""
     common = set.intersection(*(set(site.held) for site in racing))
     if common:
         tag = worded("every access holds {}", lock_name(min(common)))
         return Fact("ordered", {}, tag, [[*tag, ": these are no races."]])
-    holds = [worded("{} holds {}", place(site.location), held_at(site)) for site in racing]
     all_hold = all(site.held for site in racing)
     alone = (f" {verb_of(racing)} without a lock" if racing[0].bare == racing[0].total
              else worded(" holds {}", held_at(racing[0])))
@@ -568,7 +573,7 @@ def apart(racing, locks):
     only = [worded("One thread alone uses {}.", Code(lock)) for lock in private[:MOST_NAMED]]
     return Fact("apart", {"lines": names_of(racing), "all_hold": all_hold, "held": held_of(racing, locks)},
                 worded("{}{}", racing, alone if len(racing) == 1 else several),
-                [worded("{}, and no lock is common to them.", listed(holds, MOST_NAMED)), *only],
+                [worded("{}, and no lock is common to them.", listed(holds(racing), MOST_NAMED)), *only],
                 [] if private else worded("hold one lock at {}.", racing))
 
 
@@ -576,17 +581,17 @@ def no_lock(sites, racing, locks):
     """No lock is held at any access."""
     writing = [site for site in racing if site.writes()]
     readers = [site for site in racing if not site.writes()]
-    writers, every = (set().union(*(site.writers for site in its)) for its in (racing, sites))
+    writers, every = (union(site.writers for site in its) for its in (racing, sites))
     count = f"{len(every):,} threads" if len(every) > 1 else "one thread"
     sentence = worded("no {} is held at any access; {} {}, at {}.", locks.word, count, does("write", every),
                       [*writing, *(site for site in sites if site.writes() and not site.partners)])
-    names = set().union(*(site.variables for site in racing))
+    names = union(site.variables for site in racing)
     kinds = {alike(name) for name in names}  # a member of several objects is one, elements of an array aren't
     is_one = (len(kinds) == 1 and (len(names) == 1 or not min(kinds).endswith((b"]", b"*")))
               and not re.search(OF_LIBRARY, min(kinds)) and names.isdisjoint(locks.others)
               and all(site.widths == {False} for site in racing))
     tests_it = any(len(site.writers.intersection(reader.threads)) > 1 and not site.reads()
-                   and by_numbers(reader.location or b"") < by_numbers(site.location or b"")
+                   and by_numbers(reader.name) < by_numbers(site.name)
                    for site in writing for reader in readers)
     tag = worded("{} {}", writing, does("write", writing))
     if readers:
@@ -594,6 +599,10 @@ def no_lock(sites, racing, locks):
     return Fact("no-lock", {"writes": names_of(writing), "writers": sorted(map(text, writers))},
                 [*tag, f" without a {locks.word}"], [sentence],
                 worded("{}hold one lock at {}.", (STEP if tests_it else FLAG) * is_one, racing))
+
+
+def union(its):
+    return set().union(*its)
 
 
 def by_variable(locks, lock):
@@ -606,12 +615,12 @@ def said_of(lock, locks):
 
 def held_of(sites, locks):
     """By line: each lock that is held there at each access, by variable."""
-    return {text(site.location or b""): [by_variable(locks, lock) for lock in site.held]
+    return {text(site.name): [by_variable(locks, lock) for lock in site.held]
             for site in sites if site.held}
 
 
 def names_of(sites):
-    return [text(site.location or b"") for site in sites]
+    return [text(site.name) for site in sites]
 
 
 def places(locations):

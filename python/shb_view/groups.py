@@ -91,7 +91,7 @@ class Gathered(Union):
         if atomic:
             self.atomics[first.name] = atomic
         self.join(atomic or first.name, self.pair_at(race.place))
-        self.accesses.update(zip(race.events, race.accesses))
+        self.accesses.update(race.sides())
         if first.name not in self.events:
             self.events[first.name] = array.array("Q")
         self.events[first.name].extend(race.events)

@@ -72,14 +72,13 @@ def characters(name):
     """The characters that a reader sees, each as a text that isn't cut. Combining marks go with the character
     before them, but where another character looks like both together: so only one of the two ways to write it
     is shown without escapes."""
-    text, found = name.decode("utf-8", "surrogateescape"), []
+    text, found = name.decode(errors="surrogateescape"), []
     if text.isascii() and text.isprintable() and "\\" not in text:
         return list(text)
     for character in text:
-        is_mark = unicodedata.category(character).startswith("M")
         if not is_seen(character):
             found.append(escape(character))
-        elif not is_mark:
+        elif not is_mark(character):
             found.append(character)
         elif (found and len(found[-1]) <= MOST_MARKS
               and unicodedata.is_normalized("NFC", found[-1] + character)):
@@ -93,8 +92,11 @@ def is_seen(character):
     """Whether the character is shown as it is. Marks print where there is a character before them."""
     if character == "\\" or character in UNSEEN:
         return False
-    is_mark = unicodedata.category(character).startswith("M")
-    return is_mark or character.isprintable() and unicodedata.is_normalized("NFC", character)
+    return is_mark(character) or character.isprintable() and unicodedata.is_normalized("NFC", character)
+
+
+def is_mark(character):
+    return unicodedata.category(character).startswith("M")
 
 
 def escape(character):
@@ -111,7 +113,7 @@ def escape(character):
 
 
 def character_columns(character):
-    if character in (ISOLATE, END) or unicodedata.category(character).startswith("M"):
+    if character in (ISOLATE, END) or is_mark(character):
         return 0
     return 2 if unicodedata.east_asian_width(character) in "WF" else 1
 

@@ -59,7 +59,7 @@ def stale_of(found, facts, counting):
         again = stacks.again.get(block_of(race.accesses[0].name))
         if not again or counting.uses.are_apart(again.event, race.events[1]):
             return None
-        for event, access in zip(race.events, race.accesses):
+        for event, access in race.sides():
             pairs = facts.pairs.get((again.thread, access.thread), ())
             if any(pair.store.event >= again.event and pair.load.event <= event for pair in pairs):
                 return None
@@ -107,7 +107,7 @@ def move_of(found, counting):
         return None
     creator, others = family
     sides = {(event, access.word) for race in gathered.races(found.group.names)
-             for event, access in zip(race.events, race.accesses) if access.thread == creator}
+             for event, access in race.sides() if access.thread == creator}
     events, words = sorted({event for event, _ in sides}), {word for _, word in sides}
     repeating = {one.thread for name in found.group.names for one in counting.again.get(name, ())}
     if creator in repeating or not uses_once(found.uses, creator):
@@ -143,7 +143,7 @@ def are_moved(site, found, counting, moved):
     """Whether these events have all racing accesses of a group at a line, and none stands for several behind
     one release: none does at a line with repeats behind releases of their own."""
     racing = {event for race in counting.access_kinds.gathered.races(found.group.names)
-              for event, access in zip(race.events, race.accesses) if access.location == site.location}
+              for event, access in race.sides() if access.location == site.location}
     once = counting.uses.once
     is_behind_one = moved & once and not moved & counting.uses.repeated - once
     return racing <= moved and not is_behind_one
@@ -268,10 +268,9 @@ def with_trial(found, whole, moves, good, is_too_long):
     if move:
         tag = [*move.tag, *["; ", *fact.tag] * (fact.form == "freed")]
         tag = fact.tag if fact.said.get("after") else tag
-        fact = fact._replace(said={**fact.said, "moved": sorted(move.moved.items())}, tag=tag,
-                             remedy=[*move.remedy, TRIED[whole]])
+        fact = fact.saying({"moved": sorted(move.moved.items())}, tag=tag, remedy=[*move.remedy, TRIED[whole]])
     elif not all(good.get(keys_of(pairs), set()).issuperset(its) for its, pairs in fact.handed):
         fact = fact._replace(remedy=[], sentences=[*fact.sentences, *[TOO_LONG] * is_too_long])
     elif fact.handed:
-        fact = fact._replace(said={**fact.said, "is_tried": True}, remedy=[*fact.remedy, TRIED[whole]])
+        fact = fact.saying({"is_tried": True}, remedy=[*fact.remedy, TRIED[whole]])
     return found._replace(fact=fact)

@@ -54,7 +54,7 @@ def moments_of(trace, wanted, sources, counting):
 
 def make_windows(trace, races, counting, order):
     """A window for each race. `order` returns events in the order of a race's schedule, and that schedule."""
-    accesses = {event: access.thread for race in races for event, access in zip(race.events, race.accesses)}
+    accesses = {event: access.thread for race in races for event, access in race.sides()}
     before = {event for access in accesses for event in counting.noted[access].before}
     forks = {access: counting.begins[thread].event if thread in counting.begins else 0
              for access, thread in accesses.items()}

@@ -217,7 +217,7 @@ class Readers(side_by_side.Case):
     def test_lines_of_places(self):
         for before, after, wanted in (
             (b"place 1: 1", b"place 2: 1",
-             "line 5 of the report has the number 2; it should be `place 1: C`"),
+             "line 5 of the report is `place 2: 1`; it should be `place 1: C`"),
             (b"place 1: 1", b"place 1:", "line 5 of the report is `place 1:`; it should be `place 1: C`"),
             (b"at a.c:1", b"a.c:1", "line 6 of the report is `a.c:1`; it should be `at LOCATION`"),
             (b"and b.c:2", b"and " + b"b" * 5_000, "line 7 of the report is too long: `and " + "b" * 54
