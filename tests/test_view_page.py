@@ -333,7 +333,9 @@ class Pictures(program.Case):
         arrows = dropped = 0
         for window, found in self.pictures:
             events = [event[0] for event in found["events"]]
-            drawn_edges = set(picture.needed(window, events))
+            rows = [window.events[event] for event in events]
+            drawn_edges = {(events[edge.first], events[edge.second])
+                           for edge in picture.needed(window.edges, rows)}
             self.assertLessEqual(drawn_edges, set(window.edges))
             self.assertEqual(len(found["edges"]), len(drawn_edges))
             thread, arrows = ({event: window.events[event].thread for event in events},

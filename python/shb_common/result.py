@@ -75,7 +75,7 @@ def in_bytes(found):
     return (json.dumps(found) + "\n").encode()
 
 
-def read(path, look=lambda entry: entry["accesses"]):
+def read(path, look):
     """An earlier result, by the path of it or of its folder. `look` fails at an entry with a part missing."""
     path = os.path.join(path, NAME) if os.path.isdir(path) else path
     with open_regular(path) as file:

@@ -31,8 +31,9 @@ class Repairs:
         self.kept, self.ordering = [], 0
         self.counts, self.translated = collections.Counter(), collections.Counter()
 
-    def note(self, line, kind, words, adds_order=False):
-        """Notes a repair of a line. `kind` says which repairs are alike."""
+    def note(self, line, words, adds_order=False, kind=None):
+        """Notes a repair of a line. `kind` says which repairs are alike, if not those of these words."""
+        kind = kind or words
         self.counts[kind] += 1
         self.ordering += adds_order
         if self.counts[kind] <= self.MOST:

@@ -32,7 +32,7 @@ def event_of(number, text, repairs):
     if word != said:
         repairs.translate(SPELLING)
     if event._replace(word=said).text().rstrip(b"\n") != text:
-        repairs.note(number, "blanks", "blanks were dropped")
+        repairs.note(number, "blanks were dropped")
     if word == b"branch":   # of RAPID's: it orders nothing
         repairs.translate(BRANCH)
         return event.like(b"begin", b"branch")
@@ -46,14 +46,14 @@ def events_of(file, repairs):
         text = line.rstrip(b"\r\n")
         if number == 1 and text.startswith(MARK):
             text = text[len(MARK):]
-            repairs.note(number, "a byte order mark", "the byte order mark was dropped")
+            repairs.note(number, "the byte order mark was dropped")
         if not text:
             continue
         event = event_of(number, text, repairs)
         if event:
             yield event
         else:
-            repairs.note(number, "is no event", f"`{printable(text, COLUMNS)}` is no event: dropped")
+            repairs.note(number, f"`{printable(text, COLUMNS)}` is no event: dropped", kind="is no event: dropped")
 
 
 def kind_of(file):

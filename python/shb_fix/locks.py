@@ -122,12 +122,10 @@ class Sections:
     def allows_release(self, event):
         """Whether a release by who doesn't hold the lock stays: the log may have begun after its acquire."""
         if event.name in self.known or event.thread in self.forked:
-            self.repairs.note(event.line, "releases a lock that it doesn't hold",
-                              "the thread doesn't hold this lock: dropped")
+            self.repairs.note(event.line, "the thread doesn't hold this lock: dropped")
             return False
-        self.repairs.note(event.line, "releases a lock that was held when the log began",
-                          "the lock was held when the log began: its holder takes it before the first line",
-                          True)
+        self.repairs.note(
+            event.line, "the lock was held when the log began: its holder takes it before the first line", True)
         self.begun.append(Event(0, event.thread, b"acq", event.name, event.location))
         self.holder[event.name], self.depth[event.name] = event.thread, 1
         return True
@@ -137,12 +135,10 @@ class Sections:
         if event.word == b"join":
             held = [lock for lock, holder in self.holder.items() if holder == event.name]
             for _ in held:
-                self.repairs.note(event.line, "joins a thread that holds a lock",
-                                  f"the thread holds a lock{RELEASED}", True)
+                self.repairs.note(event.line, f"the thread holds a lock{RELEASED}", True)
             return [it for lock in held for it in self.released(lock, event.location)]
         if event.word == b"acq" and self.holder.get(event.name) not in (None, event.thread):
-            self.repairs.note(event.line, "acquires a lock that another thread holds",
-                              f"another thread holds this lock{RELEASED}", True)
+            self.repairs.note(event.line, f"another thread holds this lock{RELEASED}", True)
             return self.released(event.name, event.location)
         return []
 

@@ -5,6 +5,8 @@ import collections
 from shb_common.words import printable
 from shb_fix.events import OWN
 
+USED = "the name was used before"
+
 
 def named_apart(events, repairs):
     """A thread that is forked again after it was joined is another thread: it gets a name of its own."""
@@ -17,8 +19,7 @@ def named_apart(events, repairs):
         if event.word == b"fork" and event.name in joined:
             joined.discard(event.name)
             turn[event.name] += 1
-            repairs.note(event.line, "forks a thread whose name was used before",
-                         f"the name was used before: this thread is called {printable(own(event.name))}")
+            repairs.note(event.line, f"{USED}: this thread is called {printable(own(event.name))}", kind=USED)
         if event.word == b"join":
             joined.add(event.name)
         name = own(event.name) if event.word in (b"fork", b"join") else event.name
@@ -48,14 +49,11 @@ def without_timed_joins(lives, repairs):
     forked = set()
     for event in lives.turns:
         if event.word in (b"fork", b"join") and event.name == event.thread:
-            repairs.note(event.line, "names its own thread",
-                         f"a thread can't {event.word.decode()} itself: dropped")
+            repairs.note(event.line, f"a thread can't {event.word.decode()} itself: dropped")
         elif event.word == b"join" and lives.last.get(event.name, 0) > event.line:
-            repairs.note(event.line, "joins a thread that goes on",
-                         "the thread goes on after this join, which may have timed out: dropped")
+            repairs.note(event.line, "the thread goes on after this join, which may have timed out: dropped")
         elif event.word == b"fork" and event.name in forked:
-            repairs.note(event.line, "forks a thread again",
-                         "the thread was forked before, and not joined: dropped")
+            repairs.note(event.line, "the thread was forked before, and not joined: dropped")
         else:
             forked.update([event.name] if event.word == b"fork" else [])
             yield event
@@ -82,13 +80,13 @@ def with_early_forks(events, repairs):
         before, earlier = collections.defaultdict(list), dict(moved)
         for fork, place in late.items():
             if fork in earlier:
-                repairs.note(fork.line, "forks a thread that began before",
-                             "no place before the first event of its thread is right for this fork: dropped")
+                repairs.note(
+                    fork.line, "no place before the first event of its thread is right for this fork: dropped")
                 continue
             moved[fork] = earlier.get(events[place], events[place].line)
             before[place].append(fork)
-            repairs.note(fork.line, "was logged late",
-                         "the fork came after the first event of its thread, and was moved before it", True)
+            repairs.note(
+                fork.line, "the fork came after the first event of its thread, and was moved before it", True)
         events = [it for k, event in enumerate(events)
                   for it in [*before.get(k, ()), *([] if event in late else [event])]]
         late = late_forks(events)

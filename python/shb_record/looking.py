@@ -160,7 +160,7 @@ class Look:
         """The places that are to be on a page: none of a segment with those of earlier ones alone. Those of a
         whole record are said where the command was told to end: what comes then takes its time."""
         if self.options.live:
-            has_met = self.places.has_met(process, places)
+            has_met = self.places.met_in(process, places) is not None
             self.passed += has_met and bool(places)
             return [] if has_met else places
         if self.stops.first:

@@ -55,18 +55,17 @@ class Places(places.Places):
                             for raw, name in names.items())
         return [one for one in new if one.variables], its
 
-    def has_met(self, process, found):
-        """Whether earlier segments had all these places. A stack may have another local in each segment."""
-        return not any(place.has_more or raw.startswith(b"stack.")
-                       or way_to(process, place, raw) not in self.met
-                       for place in found for raw in place.variables)
-
     def met_in(self, process, found):
-        """The same places as `add_new` returned them."""
-        met = [(place, {raw: self.met[way_to(process, place, raw)] for raw in place.variables})
-               for place in found]
-        return [(next(key for key, _ in its.values()), place, {raw: name for raw, (_, name) in its.items()})
-                for place, its in met]
+        """These places as `add_new` returned them; None if earlier segments hadn't all. A stack may have
+        another local in each segment."""
+        its = []
+        for place in found:
+            ways = {raw: self.met.get(way_to(process, place, raw)) for raw in place.variables}
+            if place.has_more or not all(ways.values()) or any(raw.startswith(b"stack.") for raw in ways):
+                return None
+            keys = [key for key, _ in ways.values()]
+            its.append((keys[0], place, {raw: name for raw, (_, name) in ways.items()}))
+        return its
 
     def known_in(self, named):
         """The accesses at known places, each a location and a variable of the trace; and the known races."""

@@ -8,7 +8,6 @@ from shb_view.facts import worded
 from shb_view.names import by_numbers
 from shb_view.words import Code, listed, lock_name, place
 
-MOST_CALLS = 3
 # What has its result where all threads have it, in a library; with `_r` behind its name it hasn't.
 SHARED = rb"\b(asctime|ctime|get(?:gr|host|pw)\w+|gmtime|localtime|strerror|strtok)\s*\("
 LIBRARY = rb"lib\w[^:]*\.so[^:]*:"
@@ -22,7 +21,7 @@ def advised(section, source, functions):
         calls = [worded("call {} at {}", Code(name + b"_r"), place(line))
                  for line in lines for name in re.findall(SHARED, source.code(line) or b"")]
         if calls:
-            fact = fact._replace(remedy=[*listed(calls, MOST_CALLS), "."])
+            fact = fact._replace(remedy=[*listed(calls), "."])
     both = next(checks(section, source, functions), None) if fact.form == "without" else None
     if both:
         remedy = worded("hold {} from {} to {}: what was read may have changed in between.",

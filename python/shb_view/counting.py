@@ -10,7 +10,7 @@ from shb_common.variables import without_end
 from shb_common.words import Refused
 from shb_view.facts import READS, Used, renamed, used_in
 from shb_view.groups import name_parts
-from shb_view.held import GIVEN, Held, Operations, called
+from shb_view.held import GIVEN, Held, called, operations
 from shb_view.trace import CHANGED, OPENS
 
 BEFORE = 6  # events of a thread right before its access
@@ -93,7 +93,7 @@ class Counting:
         self.used = collections.defaultdict(Used)  # by group, of the trace or the run
         self.kinds = self.found = 0
         self.noted = {}  # by event
-        self.held, self.operations = collections.defaultdict(Held), Operations(kinds.locks)  # by thread
+        self.held, self.lock_of = collections.defaultdict(Held), operations(kinds.locks)  # by thread
         # by thread: its last events
         self.recent = collections.defaultdict(lambda: collections.deque(maxlen=BEFORE))
         self.before = {}  # by group and thread: its last access that was counted
@@ -125,7 +125,7 @@ class Counting:
 
     def take_all(self, trace):
         groups = {word + name + b")": group for name, group in self.groups.items() for word in (b"r(", b"w(")}
-        held, recent, last, operations = self.held, self.recent, self.last, self.operations
+        held, recent, last, lock_of = self.held, self.recent, self.last, self.lock_of
         parts, near = trace.parts, trace.parts_of(self.wanted)  # those with an access that is noted
         is_near = 1 in near
         for number, thread, operation, line in trace.events("counting accesses"):
@@ -133,7 +133,7 @@ class Counting:
                 is_near = number in near
                 self.begin_part()
             if operation[1] != OPENS:
-                lock = operations[operation]
+                lock = lock_of(operation)
                 if lock:
                     if is_near:
                         held[thread].take(*lock, number)

@@ -455,7 +455,7 @@ def without(sites, racing, lock, locks):
     sentence = worded("{} holds {}, and {} {} without it{}.", who, name, lacking, verb, at)
     instead = holds([site for site in lacking if site.held])
     if instead:
-        sentence += [" ", *listed(instead, MOST_NAMED), "."]
+        sentence += [" ", *listed(instead), "."]
     said = {"lines": names_of(lacking), "sometimes": names_of(some), "scope": scope,
             "holding": names_of(holding), **said_of(lock, locks), "instead": held_of(lacking, locks)}
     tag = (worded("{}{}{}", lacking, not_always(lacking), name) if some
@@ -533,7 +533,7 @@ def sometimes(sites, racing, lock, locks):
     name = lock_name(lock)
     return Fact("sometimes", {"lines": lines, **said_of(lock, locks)},
                 worded("{}{}{}", some, not_always(some), name),
-                [worded("{} is held at {}.", name, listed(counts, MOST_NAMED))],
+                [worded("{} is held at {}.", name, listed(counts))],
                 worded("hold {} at each access.", name), lock)
 
 
@@ -550,7 +550,7 @@ def holds_another(site, lock):
 def held_at(site):
     """What a line holds, as parts."""
     if site.held:
-        return listed(map(lock_name, site.held), MOST_NAMED)
+        return listed(map(lock_name, site.held))
     return "no lock" + " at some accesses" * (site.bare < site.total) if site.bare else (
         "a lock, but not the same each time")
 
@@ -573,7 +573,7 @@ def apart(racing, locks):
     only = [worded("One thread alone uses {}.", Code(lock)) for lock in private[:MOST_NAMED]]
     return Fact("apart", {"lines": names_of(racing), "all_hold": all_hold, "held": held_of(racing, locks)},
                 worded("{}{}", racing, alone if len(racing) == 1 else several),
-                [worded("{}, and no lock is common to them.", listed(holds(racing), MOST_NAMED)), *only],
+                [worded("{}, and no lock is common to them.", listed(holds(racing))), *only],
                 [] if private else worded("hold one lock at {}.", racing))
 
 
@@ -624,7 +624,7 @@ def names_of(sites):
 
 
 def places(locations):
-    return listed(map(place, locations), MOST_NAMED)
+    return listed(map(place, locations))
 
 
 def worded(template, *its):

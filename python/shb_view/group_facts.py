@@ -10,7 +10,6 @@ from shb_view.groups import Group, Pair, name_parts, object_of
 from shb_view.handed import MOST_RACES, handed, published, stores_of
 from shb_view.words import Code, listed
 
-MOST_NAMED = 3  # variables in a sentence
 
 # A group with its uses, its lines and its fact, and what else is shown of it: a race with what comes before
 # it (`window`); by racing line the stacks of its racing accesses, as `callers_of` returns them, each with how
@@ -120,7 +119,7 @@ class Facts:
 
     def mixed(self, parts):
         """What is said of a group whose variables differ: the fact of each part."""
-        names = [listed(map(Code, one.group.variables), MOST_NAMED) for one in parts]
+        names = [listed(map(Code, one.group.variables)) for one in parts]
         said = [fact_entry(one, self.kinds) for one in parts]
         sentences = [[*its, ": ", *sentence] for its, one in zip(names, parts)
                      for sentence in one.fact.sentences]

@@ -25,20 +25,18 @@ def called(lock, locals):
     return locals[base] + sign + rest if base in locals else lock
 
 
-class Operations(dict):
-    """By an operation of the trace: whether it is an acquire, and its lock as the program has it; None for
-    what is no acquire or release of a lock that the program has. `locals` has the names of locks on
+def operations(locals):
+    """Tells of an operation of the trace whether it is an acquire, and its lock as the program has it; None
+    for what is no acquire or release of a lock that the program has. `locals` has the names of locks on
     stacks."""
-
-    def __init__(self, locals):
-        self.locals = locals
-
-    def __missing__(self, operation):
+    @functools.lru_cache(maxsize=None)
+    def lock_of(operation):
         word, _, name = operation[:-1].partition(b"(")
-        lock = called(name, self.locals)
+        lock = called(name, locals)
         is_lock = word in (b"acq", b"rel") and not (b"@" in lock and re.fullmatch(GIVEN, lock))
-        self[operation] = found = (word == b"acq", lock) if is_lock else None
-        return found
+        return (word == b"acq", lock) if is_lock else None
+
+    return lock_of
 
 
 class Held:

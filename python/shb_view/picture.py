@@ -32,19 +32,18 @@ def picture(window, kinds):
     """`x` has the place of each lane and `texts` that of all texts, `band` is the top of the band
     with both accesses."""
     ends = {event for edge in window.edges for event in edge}
-    before = [event for event in window.before
-              if event in ends or not version_of(kinds, window.events[event])]
-    events = [*before, *window.accesses]
-    names = dict.fromkeys(window.events[event].thread for event in [*window.accesses, *before])
-    lanes = {thread: lane for lane, thread in enumerate(names)}
-    edges = [Edge(events.index(source), events.index(event), is_seen(window, source, event))
-             for source, event in needed(window, events)]
-    drawn = Layout(len(lanes), [lanes[window.events[event].thread] for event in events], edges,
-                   bars_of(window, events, lanes, len(before)))
+    before = [shown for shown in map(window.events.get, window.before)
+              if shown.number in ends or not version_of(kinds, shown)]
+    accesses = list(map(window.events.get, window.accesses))
+    rows = [*before, *accesses]
+    lanes = {thread: lane
+             for lane, thread in enumerate(dict.fromkeys(shown.thread for shown in [*accesses, *before]))}
+    edges = needed(window.edges, rows)
+    drawn = Layout(len(lanes), [lanes[shown.thread] for shown in rows], edges, bars_of(rows, lanes))
     return {"lanes": [short(thread, TEXT) for thread in lanes], "x": drawn.x, "texts": drawn.texts,
             "band": drawn.band, "height": drawn.band + 26 + 3 * ROW,
-            "events": [event_data(window, kinds, event, drawn, at) for at, event in enumerate(events)],
-            "gaps": gaps(window, events),
+            "events": [event_data(shown, kinds, drawn, at) for at, shown in enumerate(rows)],
+            "gaps": gaps(rows),
             "edges": [[*drawn.arrow(it), int(edge.is_seen)] for it, edge in enumerate(edges)],
             "bars": [[*drawn.rectangle(it), bar.name, drawn.name(it)] for it, bar in enumerate(drawn.bars)]}
 
@@ -126,10 +125,9 @@ def slots(spans):
     return found, collections.Counter(group for group, _ in taken)
 
 
-def event_data(window, kinds, event, drawn, at):
+def event_data(shown, kinds, drawn, at):
     """An event with its lane, its height and that of its texts, what these are, and its tip."""
-    shown = window.events[event]
-    does = WORDS[kinds.of(event, shown.word, shown.name)]
+    does = WORDS[kinds.of(shown.number, shown.word, shown.name)]
     location = short(shown.location, TEXT) if shown.location else "(no location)"
     version = version_of(kinds, shown)
     if version and shown.name.partition(b"@")[0] in kinds.stacks.atomics:
@@ -137,17 +135,16 @@ def event_data(window, kinds, event, drawn, at):
     name = short(shown.called[:version.start()] if version else shown.called or b"", TEXT - 9)
     others = [lock for lock in drawn.unnamed(at) if lock != name] if at < drawn.last else []
     number = f"{at - drawn.last + 1}  " if at >= drawn.last else ""
-    return [event, drawn.events[at], drawn.y[at], drawn.text(at), f"{number}{does} {name}".rstrip(),
-            f"{location} · {event}" + (f" · holds {', '.join(others)}" if others else ""), tip(shown)]
+    return [shown.number, drawn.events[at], drawn.y[at], drawn.text(at), f"{number}{does} {name}".rstrip(),
+            f"{location} · {shown.number}" + (f" · holds {', '.join(others)}" if others else ""), tip(shown)]
 
 
-def gaps(window, events):
+def gaps(rows):
     """For each event whether events of its thread before it are left out."""
     last, found = {}, []
-    for event in events:
-        shown = window.events[event]
+    for shown in rows:
         found.append(int(shown.previous != last.get(shown.thread, 0)))
-        last[shown.thread] = event
+        last[shown.thread] = shown.number
     return found
 
 
@@ -158,34 +155,28 @@ def version_of(kinds, shown):
     return of_lock and re.search(VERSION, of_lock)
 
 
-def bars_of(window, events, lanes, last):
-    rows = {event: min(row, last) for row, event in enumerate(events)}
+def bars_of(rows, lanes):
+    at = {shown.number: min(row, len(rows) - 2) for row, shown in enumerate(rows)}
     bars = {}
-    for event in events:
-        shown = window.events[event]
+    for shown in rows:
+        row = at[shown.number]
         for lock, acquire in shown.locks[-MOST_BARS:]:
-            top = bars[acquire].top if acquire in bars else rows.get(acquire, rows[event] - STUB)
+            top = bars[acquire].top if acquire in bars else at.get(acquire, row - STUB)
             bars[acquire] = Bar(lanes[shown.thread], short(lock, TEXT), top,
-                                rows[event] + (0 if shown.freed == lock else STUB))
+                                row + (0 if shown.freed == lock else STUB))
     return list(bars.values())
 
 
-def needed(window, events):
+def needed(edges, rows):
     """The edges but for those that an earlier one from the same thread to the same thread makes needless."""
-    latest, found = {}, []
-    for source, event in sorted(window.edges,
-                                key=lambda edge: (events.index(edge[1]), -events.index(edge[0]))):
-        threads = window.events[source].thread, window.events[event].thread
-        if events.index(source) > latest.get(threads, -1):
-            latest[threads] = events.index(source)
-            found.append((source, event))
+    at, latest, found = {shown.number: row for row, shown in enumerate(rows)}, {}, []
+    for first, second in sorted(((at[source], at[event]) for source, event in edges),
+                                key=lambda edge: (edge[1], -edge[0])):
+        source, later = rows[first], rows[second]
+        if first > latest.get((source.thread, later.thread), -1):
+            latest[source.thread, later.thread] = first
+            found.append(Edge(first, second, later.word == b"r" and later.source == source.number))
     return found
-
-
-def is_seen(window, source, event):
-    """Whether the later event reads what the earlier one wrote."""
-    later = window.events[event]
-    return later.word == b"r" and later.source == source
 
 
 def tip(shown):

@@ -8,7 +8,6 @@ from shb_common.locations import bare, parts_of
 from shb_common.words import counted
 from shb_view.words import Code, listed, lock_parts, place
 
-MOST_NAMED = 3  # threads or blocks with one stack
 MAKES_FIBER, HANDLER = b"__tsan_create_fiber", b"signal handler"
 WITHOUT_LINE = {MAKES_FIBER: " (which made the fiber)", HANDLER: ""}
 
@@ -50,7 +49,7 @@ def told_together(kind, verb, its):
     for name, frames in its:
         key = tuple(map(tuple, caller_lines(frames, len(frames))))
         found.setdefault(key, ([], frames))[0].append(Code(name))
-    return [([f"{kind} " if len(names) == 1 else f"{kind}s ", *listed(names, MOST_NAMED),
+    return [([f"{kind} " if len(names) == 1 else f"{kind}s ", *listed(names),
               f" was {verb}" if len(names) == 1 else f" were {verb}"], frames)
             for names, frames in found.values()]
 

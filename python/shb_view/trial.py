@@ -16,7 +16,6 @@ from shb_view.trace import OPENS, line_of
 from shb_view.words import Code, listed, place
 
 MOST_LINES = 400_000  # of all copies
-MOST_NAMED = 3  # lines in a remedy
 MOVED = "no-lock", "apart", "freed"  # the forms of which a move may be the remedy
 TRIED = {"run": " Tried on this run: no race of it is left in the page's trace.",
          "trace": " Tried on this trace: no race of it is left."}
@@ -92,7 +91,7 @@ def moves_of(found, counting, are_posts):
             word = "exchange" if (release.lock, release.location) in stacks.exchanges else "release"
             after[release[3:]] = worded("the {} of {} at {}", word, Code(called(release.lock, locks)),
                                         place(release.location))
-        what = listed(after.values(), MOST_NAMED)
+        what = listed(after.values())
         yield Change(set(names), before, {number: release.begin for number, (release, _) in moved.items()},
                      worded("move {} before {}.", [site], what),
                      worded("{} {} after {}", [site], verb_of([site]), what))
@@ -106,26 +105,26 @@ def move_of(found, counting):
     if not family:
         return None
     creator, others = family
-    sides = {(event, access.word) for race in gathered.races(found.group.names)
-             for event, access in race.sides() if access.thread == creator}
-    events, words = sorted({event for event, _ in sides}), {word for _, word in sides}
+    moved = dict(sorted((event, access) for race in gathered.races(found.group.names)
+                        for event, access in race.sides() if access.thread == creator))
+    lines, words = {access.location for access in moved.values()}, {access.word for access in moved.values()}
     repeating = {one.thread for name in found.group.names for one in counting.again.get(name, ())}
     if creator in repeating or not uses_once(found.uses, creator):
         return None
     step, event, where, when = None, 0, "", ""
     if words == {b"r"}:
-        step = last_join(others, creator, counting.ends, events)
+        step = last_join(others, creator, counting.ends, max(moved))
         event, where, when = step and step.event + 1, "after the join", "before the join"
     elif words == {b"w"} and not repeating and all(uses_once(found.uses, other, False) for other in others):
         step = min((counting.begins[other] for other in others), key=lambda it: it.event)
         event, where, when = step.event, "before the thread's creation", "after the thread's creation"
-    if not step or not are_in_one(counting.access_kinds.stacks, events, step.event):
+    if not step or not are_in_one(counting.access_kinds.stacks, moved, step.event):
         return None
-    moved = [gathered.accesses[event] for event in events]
-    lines, to = {access.location for access in moved}, place(event_of(without_end(step.line)).location)
+    to = place(event_of(without_end(step.line)).location)
     at, more = ([site for site in found.sites if site.partners and (site.location in lines) == is_moved]
                 for is_moved in (True, False))
-    return Change(set(found.group.names), {event: list(map(line_of, moved))}, dict.fromkeys(events, event),
+    return Change(set(found.group.names), {event: list(map(line_of, moved.values()))},
+                  dict.fromkeys(moved, event),
                   worded("move {} {} at {}.", at, where, to),
                   [*worded("{} {} {} at {}", at, verb_of(at), when, to),
                    *worded("; {} {}", more, verb_of(more)) * bool(more)])
@@ -167,10 +166,10 @@ def uses_once(used, thread, may_write=True):
             and (may_write or all(use.word in READS for its in own for use in its)))
 
 
-def last_join(others, creator, ends, events):
-    """The last of the joins by which a thread waits for others after some events; None if not all are."""
+def last_join(others, creator, ends, event):
+    """The last of the joins by which a thread waits for others after an event; None if not all are."""
     found = [ends.get(other) for other in others]
-    if not all(step and step.thread == creator and step.event > events[-1] for step in found):
+    if not all(step and step.thread == creator and step.event > event for step in found):
         return None
     return max(found, key=lambda step: step.event)
 

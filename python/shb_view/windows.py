@@ -31,7 +31,7 @@ def moments_of(trace, wanted, sources, counting):
         # by thread; `latest`: of a tracked operation its last event, its thread and its moment
         last, held, latest = {}, collections.defaultdict(Held), {}
         for number, thread, operation, _ in trace.events("reading what comes before", part):
-            lock = counting.operations[operation] if operation[1] != OPENS else None
+            lock = counting.lock_of(operation) if operation[1] != OPENS else None
             if number in wanted or operation in tracked:
                 is_acquire, name = lock or (True, None)
                 freed = name if not is_acquire and held[thread].is_last_release(name) else None

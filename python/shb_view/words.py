@@ -13,7 +13,7 @@ VERBS = {b"r": "reads", b"l": "reads atomically", b"w": "writes", b"a": "writes 
 MOST_DETAILED = 200  # groups that are shown whole; of further ones the headline, the facts and the places are
 MOST_SITES = 20  # lines that are shown of a group
 # that are named at a line; MOST_SOME are held at some accesses
-MOST_LOCKS, MOST_SOME, MOST_PARTNERS, MOST_THREADS = 8, 3, 8, 3
+MOST_LOCKS, MOST_SOME, MOST_PARTNERS = 8, 3, 8
 MOST_VARIABLES = 8  # that are named of a group
 NO_LOCK = "no lock held"
 VERIFIED = "Verified: "
@@ -52,7 +52,7 @@ def lock_parts(name):
     return [Code(shared), " for reading"] if shared else [Code(name)]
 
 
-def listed(items, most):
+def listed(items, most=3):
     """Items, each a part or several, with commas and an `and` between them; after so many it is said how many
     more there are."""
     items = list(map(as_parts, items))
@@ -78,7 +78,7 @@ def flat_in(most):
 def thread_parts(site):
     """The threads that use a line, those with most accesses first."""
     threads = sorted(site.threads, key=lambda thread: (-site.threads[thread], thread))
-    return listed(map(Code, threads), MOST_THREADS)
+    return listed(map(Code, threads))
 
 
 def lock_words(site):
@@ -112,7 +112,7 @@ def accesses_text(site, is_counted):
 def share(count, total, is_bare, threads):
     """How many of a line's accesses have a stack, which threads, and that they hold no lock where others
     do."""
-    by = [" by ", *listed(map(Code, sorted(threads)), MOST_THREADS)] * bool(threads)
+    by = [" by ", *listed(map(Code, sorted(threads)))] * bool(threads)
     return [f"{count:,} of {counted(total, 'access', 'accesses')}", *by, f", {NO_LOCK}" * is_bare]
 
 
@@ -170,7 +170,7 @@ def seen_parts(section):
     for writer, reader in section.seen:
         readers.setdefault((reader, "freed" if writer in frees else "wrote"), []).append(place(writer))
     for (reader, verb), writers in [*readers.items()][:MOST_SOME]:
-        yield [place(reader), " read what ", *listed(writers, MOST_SOME),
+        yield [place(reader), " read what ", *listed(writers),
                f" {verb}. This racy read may hide other races: fix it and run again."]
 
 
@@ -191,7 +191,7 @@ def told_of(section):
         yield ["Seen only with the known races left out: real if those are harmless."]
     if section.unseen:
         yield ["Perhaps ordered: code of both sides calls, or is called by, ",
-               *listed(map(Code, section.unseen), MOST_SOME), ", whose own atomics and futexes aren't seen."]
+               *listed(map(Code, section.unseen)), ", whose own atomics and futexes aren't seen."]
     yield from section.fact.sentences
     if section.fact.remedy:
         yield ["Remedy: ", *section.fact.remedy]

@@ -164,7 +164,7 @@ class Facts(farm.Case):
                             "a part of it is missing")):
             path.write_bytes(text)
             with self.assertRaises(Refused) as refused:
-                result.read(path)
+                result.read(path, lambda entry: entry["accesses"])
             self.assertTrue(str(refused.exception).startswith(f"{path}: "))
             self.assertIn(said.rstrip("\n"), str(refused.exception))
 
