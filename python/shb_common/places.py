@@ -73,7 +73,7 @@ class Places:
 
 def count(places):
     """How many places of a trace these are: the analyser lists one for each order in which two lines race."""
-    return len({frozenset((place.first, place.second)) for place in places})
+    return len({frozenset(place[:2]) for place in places})
 
 
 def in_order(rows):

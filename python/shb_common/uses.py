@@ -53,16 +53,15 @@ class Uses:
                 raise BadUses(OTHER)
             for number, line in enumerate(file, 2):
                 try:
-                    self.take(line[:-1].split(b"\t") if line.endswith(b"\n") else [])
-                except (ValueError, LookupError):
+                    self.take(*line[:-1].split(b"\t") if line.endswith(b"\n") else ())
+                except (ValueError, LookupError, TypeError):
                     raise BadUses(f"is damaged in line {number}: `{printable(line[:80].rstrip())}`") from None
         if self.count is None:
             raise BadUses("is cut off")
 
-    def take(self, fields):
-        kind = fields[0]
+    def take(self, kind, *fields):
         if kind == b"use":
-            word, variable, local, location, *sums = fields[1:]
+            word, variable, local, location, *sums = fields
             counts = sums[1::3]
             if word not in WORDS or len(sums) % 3 or counts and not b"".join(counts).isdigit():
                 raise ValueError
@@ -72,19 +71,19 @@ class Uses:
                 its[kind][int(of) if kind in NUMBERED else of] = count
             self.uses.append(Use(word.lower(), variable, local, location, word.isupper(), **its))
         elif kind == b"event":
-            in_page, in_run = map(whole, fields[1:])
+            in_page, in_run = map(whole, fields)
             self.events[in_run], self.in_run[in_page] = in_page, in_run
         elif kind == b"repeated":
-            self.repeated.add(whole(fields[1]))
-            self.once.update(map(whole, fields[1:2] * (fields[2:] == [b"once"])))
+            self.repeated.add(whole(fields[0]))
+            self.once.update(map(whole, fields[:1] * (fields[1:] == (b"once",))))
         elif kind == b"seen":
-            self.sights.add(tuple(fields[1:]))
+            self.sights.add(fields)
         elif kind == b"part":
-            self.parts.extend(map(whole, fields[1:]))
-        elif fields == [b"sets"]:
+            self.parts.extend(map(whole, fields))
+        elif (kind, *fields) == (b"sets",):
             self.are_sets_apart = False
         elif kind == b"events":
-            [self.count] = map(whole, fields[1:])
+            [self.count] = map(whole, fields)
         else:
             raise ValueError
 

@@ -53,7 +53,7 @@ class Worker:
             adopt_orphans()
             with contextlib.redirect_stderr(io.StringIO()) as said:
                 try:
-                    answer = Run(options, self.number, folder, blocked=blocked).outcome()
+                    answer = Run(options, self.number, folder, blocked=blocked)
                 except (Refused, OSError) as fault:
                     answer = fault
             import pickle  # takes its time, and one run does without
@@ -62,8 +62,8 @@ class Worker:
         finally:
             os._exit(0)
 
-    def outcome(self):
-        """What became of the run, which has ended. What was written is passed on."""
+    def run(self):
+        """The run, which has ended. What was written is passed on."""
         for file in (self.answer, *self.written.values()):
             file.seek(0)
         for descriptor, file in self.written.items():
@@ -81,20 +81,22 @@ class Worker:
         return answer
 
 
-def outcomes(options, folder, look):
-    """What became of each run, in their order. Those that are not asked for are ended, and leave nothing."""
+def runs(options, folder, look):
+    """The runs that have ended, in their order. Those that are not asked for are ended, and leave nothing."""
     workers, numbers = collections.deque(), iter(range(1, options.runs + 1))
     try:
         for number in numbers if options.jobs == 1 else ():
-            yield Run(options, number, folder, look).outcome()
+            yield Run(options, number, folder, look)
         while True:
             for number in itertools.islice(numbers, options.jobs - len(workers)):
                 workers.append(Worker(options, number, folder))
             if not workers:
                 return
             stop, stopped = wait_for_first(workers)
-            outcome = workers.popleft().outcome()
-            yield outcome if outcome.stop else outcome._replace(stop=stop, stopped=stopped)
+            run = workers.popleft().run()
+            if not run.stop:
+                run.stop, run.stopped = stop, stopped
+            yield run
     finally:
         end(workers)
         for path in (path for worker in workers for path in files_in(folder, f"run{worker.number}.")):

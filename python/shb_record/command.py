@@ -12,11 +12,12 @@ import signal
 from shb_common import known
 from shb_common.children import adopt_orphans
 from shb_common.commands import Parser, number
+from shb_common.files import put
 from shb_common.limits import MOST_EVENTS
 from shb_common.standard import open_standard_files, words_of
 from shb_common.stops import Stops
 from shb_common.words import Refused, counted, printable
-from shb_record.at_once import jobs_of, outcomes
+from shb_record.at_once import jobs_of, runs
 from shb_record.converting import Records
 from shb_record.looking import Look
 from shb_record.parts import LIBRARY, check_parts, say
@@ -168,8 +169,7 @@ def record(options):
     """Runs the program, looks at its runs, and says what was found. Returns the status."""
     results = Results(options.folder, shlex.join(options.words).replace("\n", "\\n"), options.replay)
     if options.replay:
-        with open(f"{results.work}/{REPLAYED}", "wb") as file:
-            file.write(options.turns.content)
+        put(f"{results.work}/{REPLAYED}", options.turns.content)
     stops = Stops("shb-record: {}: what was recorded is still shown; another one ends at once, and keeps the "
                   "record\n".format, options.show)
     adopt_orphans()
@@ -202,8 +202,8 @@ def record(options):
 
 def run_all(look):
     options = look.options
-    with contextlib.closing(outcomes(options, look.results.work,
-                                     look.look_meanwhile if options.live else None)) as ended:
+    with contextlib.closing(runs(options, look.results.work,
+                                 look.look_meanwhile if options.live else None)) as ended:
         for number, run in enumerate(ended, 1):
             look.own = look.own or run.own
             look.stops.note(run.stop, run.stopped)

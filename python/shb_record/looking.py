@@ -172,10 +172,10 @@ class Look:
         accesses, races = self.places.known_in(looked.named)
         if not accesses:
             return
-        from shb_record.second import Second, besides  # takes its time, and most calls do without
-        second = Second(accesses, races)
-        looked.behind = besides(looked.places, second.places(looked, self.results.work))
-        self.passed_over.update(dict.fromkeys((one.location, other.location) for one, other in second.seen))
+        from shb_record import second  # takes its time, and most calls do without
+        found, seen = second.look(looked, self.results.work, accesses, races)
+        looked.behind = second.besides(looked.places, found)
+        self.passed_over.update(dict.fromkeys((one.location, other.location) for one, other in seen))
         if looked.behind:
             looked.places = [*looked.places, *looked.behind]
             looked.write_page(looked.places)

@@ -108,7 +108,7 @@ class Places(places.Places):
 
 def way_to(process, place, variable):
     """Which variable of a program at which place, in each segment alike."""
-    return process.program, place.first, place.second, known.lasting(variable)
+    return process.program, *place[:2], known.lasting(variable)
 
 
 def named(place, tables, numbers):

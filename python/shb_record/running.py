@@ -1,6 +1,5 @@
 """A run of the program."""
 
-import collections
 import contextlib
 import os
 import shlex
@@ -60,17 +59,14 @@ def started(words, variables, blocked):
         raise CannotRun(f"{words[0]}: can't be run: {fault.strerror}{interpreter(words[0])}") from None
 
 
-# What became of a run: the program's status in a shell, the last signal to end it, and when the first came.
-Outcome = collections.namedtuple("Outcome", "own stop stopped")
-
-
 class Run:
     """A run of the program, in which these signals are blocked. A signal that would end this command is
     passed on to the program and to what it leaves behind; what they did is shown all the same. While it runs
     `look` looks at what there is of it, and says whether it did."""
 
     def __init__(self, options, number, folder, look=None, blocked=None):
-        # `end` is when it is killed, `own` its status in a shell once it has ended
+        # `stop` is the last signal to end it, `stopped` when the first came, `end` when it is killed, `own`
+        # its status in a shell once it has ended
         self.wait, self.stop, self.stopped, self.end, self.own = options.wait, None, None, None, None
         before = signal.pthread_sigmask(signal.SIG_BLOCK, WATCHED)
         try:
@@ -89,9 +85,6 @@ class Run:
         if ended:
             self.own = 128 + os.WTERMSIG(status) if os.WIFSIGNALED(status) else os.WEXITSTATUS(status)
         return ended != 0
-
-    def outcome(self):
-        return Outcome(self.own, self.stop, self.stopped)
 
     def take_signal(self, watched, seconds):
         """Waits for a signal, passes it on, and kills what was told to end and is still there. The terminal

@@ -472,16 +472,16 @@ def is_beside(locks, lock, variables):
 
 def is_member(lock, variable):
     """Whether both are members of one element, as a[3].door and a[3].sum are."""
-    one, other = ([parts["base"], *parts["inside"].rpartition(b".")[:2], parts["block"], parts["of"]]
+    one, other = ({**parts, "inside": parts["inside"].rpartition(b".")[:2]}
                   for parts in map(name_parts, (lock, variable)))
-    return one == other and one[2] == b"."
+    return one == other and one["inside"][1] == b"."
 
 
 def object_in(name):
     """The named object or the block that a name is inside of; None of one that is no part, or on a stack."""
     parts = name_parts(name)
     is_part = parts["inside"] and not name.startswith(b"stack.")
-    return (parts["base"], parts["block"], parts["of"]) if is_part else None
+    return {**parts, "inside": b""} if is_part else None
 
 
 def is_rule(lacking, holding, variables, lock, is_member):

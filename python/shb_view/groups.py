@@ -182,8 +182,8 @@ def common_name(variables):
         return [Code(variables[0])]
     more = " or more" * (len(variables) >= MOST_VARIABLES)
     parts = [name_parts(variable) for variable in variables]
-    bases, blocks, insides = ({part[name] for part in parts} for name in ("base", "block", "inside"))
-    functions = {part["of"] for part in parts}
+    bases, blocks, insides, functions = ({part[name] for part in parts}
+                                         for name in ("base", "block", "inside", "of"))
     if len(bases) > 1 or len(functions) > 1:
         others = [Code(variables[1])] if len(variables) == 2 else [f"{len(variables) - 1}{more} others"]
         return [Code(variables[0]), " and ", *others]

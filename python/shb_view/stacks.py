@@ -9,6 +9,7 @@ from shb_common.words import counted
 from shb_view.words import Code, listed, lock_parts, place
 
 MAKES_FIBER, HANDLER = b"__tsan_create_fiber", b"signal handler"
+OF_SYSTEM = "({} of the system's headers or libraries)".format
 WITHOUT_LINE = {MAKES_FIBER: " (which made the fiber)", HANDLER: ""}
 
 
@@ -61,13 +62,13 @@ def caller_lines(frames, most):
     innermost stands for them."""
     own = [number for number, frame in enumerate(frames) if not frame.in_system]
     if not own:
-        more = [[f"({counted(len(frames) - 1, 'more function')} of the system's headers or libraries)"]]
+        more = [[OF_SYSTEM(counted(len(frames) - 1, "more function"))]]
         return [*map(frame_parts, frames[:1]), *more * (len(frames) > 1)]
     found = []
     for in_system, its in itertools.groupby(frames[own[0]:own[-1] + 1], lambda frame: frame.in_system):
         lines = list(map(frame_parts, its))
         if in_system and len(lines) > 1:
-            lines = [[f"({counted(len(lines), 'function')} of the system's headers or libraries)"]]
+            lines = [[OF_SYSTEM(counted(len(lines), "function"))]]
         found += lines
     if len(found) > most:
         found = [*found[:most - 1], [f"({len(found) - most + 1:,} more)"]]

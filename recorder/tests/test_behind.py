@@ -85,14 +85,15 @@ class Rest(recorder.Case):
     def test_events_keep_their_numbers(self):
         lines = [b"A|w(x)|1\n", b"A|acq(l)|2\n", b"A|r(x)|3\n", b"B|w(y)|1\n", b"B|w(x)|1\n", b"B|r(x)|4\n",
                  b"B|rel(l)|5\n"]
-        its = second.Second({(b"1", b"x"), (b"3", b"x")}, [])
-        self.assertEqual(list(its.rest(lines)), [lines[k] for k in (1, 3, 5, 6)])
-        self.assertEqual([its.number(kept) for kept in (1, 2, 3, 4)], [2, 4, 6, 7])
+        kept_before = []
+        rest = second.rest(lines, {(b"1", b"x"), (b"3", b"x")}, [], kept_before, [])
+        self.assertEqual(list(rest), [lines[k] for k in (1, 3, 5, 6)])
+        self.assertEqual(kept_before, [0, 1, 2])
 
     def test_reads_of_what_the_first_wrote(self):
         one, other = Access(b"A", b"w", b"x", b"1"), Access(b"B", b"r", b"x", b"2")
         for lines, seen in (([b"A|w(x)|1\n", b"B|r(x)|2\n"], 1),
                             ([b"A|w(x)|1\n", b"B|w(x)|9\n", b"B|r(x)|2\n"], 0)):
-            its = second.Second({(b"1", b"x"), (b"2", b"x")}, [Race(1, (1, len(lines)), (one, other), None)])
-            list(its.rest(lines))
-            self.assertEqual(its.seen, [(one, other)] * seen)
+            found, race = [], Race(1, (1, len(lines)), (one, other), None)
+            list(second.rest(lines, {(b"1", b"x"), (b"2", b"x")}, [race], [], found))
+            self.assertEqual(found, [(one, other)] * seen)
