@@ -63,8 +63,8 @@ class Parser(argparse.ArgumentParser):
         for name, value, said in re.findall(r"^(\S+?)(?: (\S+))?: (.*(?:\n  .*)*)", options, re.M):
             place = name.strip("-").replace("-", "_").lower()
             how = {"metavar": value or name} if value or name.isupper() else {"action": "store_true"}
-            (group if place in exclusive else self).add_argument(
-                place if name.isupper() else name, help=" ".join(said.split()), **{**how, **more.get(place, {})})
+            how.update(more.get(place, {}), help=" ".join(said.split()))
+            (group if place in exclusive else self).add_argument(place if name.isupper() else name, **how)
 
     def format_help(self):
         notes = f"{self.notes.rstrip()}\n\nshb {installed()}\n" if installed() else self.notes

@@ -7,9 +7,7 @@ from shb_common.words import printable
 
 NUMBER = r"(?:.*: )?line ([1-9][0-9]{0,18}): "
 LONGEST = 60        # columns of the line that are shown
-WORDS = {b"r", b"w", b"acq", b"rel", b"fork", b"join", b"begin", b"end"}
-KIN = {b"read": "r", b"write": "w", b"lock": "acq", b"acquire": "acq", b"unlock": "rel", b"release": "rel",
-       b"start": "fork"}
+WORDS = set(b"r w acq rel fork join begin end".split())
 SEPARATORS = {b"\t": "tabs", b",": "commas", b";": "semicolons"}
 MARK = b"\xef\xbb\xbf"
 # as `shb` says it of any trace
@@ -34,6 +32,14 @@ LIMITS = (f"there are more than {MOST_EVENTS} events", f"there are more than {MO
           f"the text is longer than {MOST_TEXT} bytes")
 LONGER = "`shb places --list` lists the places of a longer trace"
 CARRIAGE_RETURNS = "a carriage return without a line feed: lines end with a line feed, or with both"
+
+
+def paired(text):
+    """A table of words: pairs with a sign in between."""
+    return dict(pair.split(b"=") for pair in text.split())
+
+
+KIN = paired(b"read=r write=w lock=acq acquire=acq unlock=rel release=rel start=fork")
 
 
 def without_note(said):
@@ -102,4 +108,4 @@ def hint_of(line):
         return "there are blanks around the bar: write THREAD|OPERATION|LOCATION without them"
     if bare.lower() in WORDS and bare != bare.lower():
         return f"operations are written in small letters, as `{bare.lower().decode()}`"
-    return f"this operation is written `{KIN[bare.lower()]}`" if bare.lower() in KIN else ""
+    return f"this operation is written `{KIN[bare.lower()].decode()}`" if bare.lower() in KIN else ""

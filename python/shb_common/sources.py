@@ -79,13 +79,13 @@ class Sources:
 
     def find_path(self, path):
         path = posixpath.normpath(path)
-        if path.startswith(b"/"):
+        is_absolute = path.startswith(b"/")
+        if is_absolute:
             path = os.path.relpath(os.path.realpath(path), self.folder)
-            return (path if not path.startswith(b"../")
-                    and os.path.isfile(os.path.join(self.folder, path)) else None)
-        if os.path.isfile(os.path.join(self.folder, path)) and not path.startswith(b"../"):
+        if not path.startswith(b"../") and os.path.isfile(os.path.join(self.folder, path)):
             return path
-        found = [name for name in self.index.named(posixpath.basename(path)) if name.endswith(b"/" + path)]
+        found = [name for name in self.index.named(posixpath.basename(path))
+                 if name.endswith(b"/" + path)] if not is_absolute else []
         return found[0] if len(found) == 1 else None
 
     def line(self, path, number):

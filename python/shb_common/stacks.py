@@ -15,10 +15,9 @@ BEGIN = rb"shb-stacks 1 ([0-9]{20})\n"
 BEGIN_BYTES = 34
 NUMBER_BYTES = 4    # of an event's stack
 BLOCK = rb"(?s).*#([0-9]{1,18})(?:\+[0-9]+)?"  # a variable in a block, as the recorder names it
-ORDERS = b"relaxed", b"acquire", b"release", b"both"
-USES = b"load", b"store", b"exchange", b"update", b"fence"
+ORDERS, USES = b"relaxed acquire release both".split(), b"load store exchange update fence".split()
 NUMBERED = b"stack", b"block", b"free"
-NAMED = b"frame", b"system-frame", b"thread", b"source", b"line", b"local", b"use", b"again", b"type"
+NAMED = b"frame system-frame thread source line local use again type".split()
 OTHER = "doesn't have the stacks of this trace"
 MOST_DEEP = 200  # calls of a stack that are looked at
 MOST_FRAMES = 2_000  # of these calls, of which inlined code has several each
@@ -52,7 +51,8 @@ class AtomicUse(collections.namedtuple("AtomicUse", "event name thread location 
 
     def words(self):
         """What it does, as parts."""
-        does = {b"load": "reads", b"store": "writes", b"exchange": "exchanges", b"update": "updates"}[self.kind]
+        does = {b"load": "reads", b"store": "writes", b"exchange": "exchanges",
+                b"update": "updates"}[self.kind]
         order = self.order.decode().replace("both", "acquire and release")
         return [f"{does} it", " relaxed" if order == "relaxed" else f" with {order}"]
 

@@ -10,7 +10,7 @@ from shb_common.words import printable
 
 BEGIN = b"shb-uses 3\n"
 OTHER = "is of another version of shb: its first line isn't `shb-uses 3`"
-WORDS = b"r", b"w", b"l", b"a", b"f", b"R", b"W"
+WORDS = b"r w l a f R W".split()
 SUMS = "by under reading bare held many"  # by thread, by lock, and by the number of a stack
 NUMBERED = "bare", "held", "many"
 
@@ -33,12 +33,12 @@ class BadUses(Exception):
 
 
 class Uses:
-    """Nothing without a path. `events` has for an event of the run that of the page's trace, and `in_run` the other way; `count` is
-    how many that trace has. `parts` are those of its events before which some of the run may be missing;
-    `repeated` are those that stand for repeats before them, `once` those of these behind the first release of
-    their thread at its place; `sights` are a variable, and where it was written
-    and then read by another thread, in the run. `are_sets_apart`: whether the recorder told all sets of held
-    locks apart."""
+    """Nothing without a path. `events` has for an event of the run that of the page's trace, and `in_run` the
+    other way; `count` is how many that trace has. `parts` are those of its events before which some of the
+    run may be missing; `repeated` are those that stand for repeats before them, `once` those of these behind
+    the first release of their thread at its place; `sights` are a variable, and where it was written and then
+    read by another thread, in the run. `are_sets_apart`: whether the recorder told all sets of held locks
+    apart."""
 
     def __init__(self, path=None):
         self.uses, self.events, self.in_run, self.parts, self.count = [], {}, {}, [], None

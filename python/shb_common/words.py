@@ -9,9 +9,10 @@ class Refused(Exception):
     """What every part of a command raises: the words say why, and what to do about it where that is known."""
 
 
-def counted(count, word, words=None):
-    """`1 place`, `2 places`, `1,000 places`."""
-    return f"{count:,} {word if count == 1 else words or word + 's'}"
+def counted(count, word):
+    """`1 place`, `2 places`, `1,000 accesses`."""
+    ending = "es" if word.endswith(("s", "ch")) else "s"
+    return f"{count:,} {word}{ending * (count != 1)}"
 
 
 def in_html(text):

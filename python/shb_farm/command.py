@@ -71,7 +71,8 @@ OPTIONS = """\
 --fail-on-stale: end with status 1 if a line of --known matched nothing
 --links: follow links that lead out of TRACES
 --source DIR: the repository: places.sarif names its files if it finds them
---engine NAME: xargs: this machine (the default); slurm: a job array on a cluster whose nodes see the same folders
+--engine NAME: xargs: this machine (the default); slurm: a job array on a cluster whose nodes see the same
+  folders
 --jobs N: with xargs: traces at once (as many as processors)
 --memory MIB: memory of a trace (%(default)s)
 --seconds N: processor time of a trace (%(default)s)

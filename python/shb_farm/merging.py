@@ -19,7 +19,8 @@ def ending_of(work, name, outside=()):
     path = pathlib.Path(work.traces) / name
     try:
         state = os.stat(path)
-        why = (traces.LEADS_OUT if name in outside else "not a regular file" if not stat.S_ISREG(state.st_mode)
+        why = (traces.LEADS_OUT if name in outside
+               else "not a regular file" if not stat.S_ISREG(state.st_mode)
                else "" if os.access(path, os.R_OK) else "Permission denied")
     except OSError as fault:
         if not os.path.islink(path):    # nobody will find what a link doesn't lead to

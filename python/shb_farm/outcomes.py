@@ -3,6 +3,7 @@
 
 import collections
 import json
+import os
 import pathlib
 
 from shb_common.analyser import Place
@@ -39,7 +40,8 @@ def checksum_of_file(file):
 
 
 def text_of(outcome):
-    places = [[text(first), text(second), [[text(name), *events] for name, events in its.items()], has_more]
+    places = [[os.fsdecode(first), os.fsdecode(second),
+               [[os.fsdecode(name), *events] for name, events in its.items()], has_more]
               for first, second, its, has_more in outcome.places]
     found = outcome._replace(words=" ".join(outcome.words.split()), places=places)
     lines = FIRST + json.dumps(found).encode() + b"\n"
@@ -67,13 +69,5 @@ def read(path, name):
 
 def place_of(fields):
     first, second, variables, has_more = fields
-    variables = {raw(name): (int(one), int(other)) for name, one, other in variables}
-    return Place(raw(first), raw(second), variables, bool(has_more))
-
-
-def text(name):
-    return name.decode(errors="surrogateescape")
-
-
-def raw(name):
-    return name.encode(errors="surrogateescape")
+    variables = {os.fsencode(name): (int(one), int(other)) for name, one, other in variables}
+    return Place(os.fsencode(first), os.fsencode(second), variables, bool(has_more))

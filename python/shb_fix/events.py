@@ -40,7 +40,7 @@ class Repairs:
             self.kept.append((line, words + self.ADDS_ORDER * adds_order))
 
     def translate(self, what):
-        """Counts an event that has another form now; `what` names its form, of one and of several."""
+        """Counts an event that has another form now; `what` names its form."""
         self.translated[what] += 1
 
     def lines(self):
@@ -51,7 +51,7 @@ class Repairs:
                 yield f"{count - self.MOST} more lines: {kind}"
 
     def summary(self):
-        forms = ", ".join(counted(count, *what) for what, count in sorted(self.translated.items()))
+        forms = ", ".join(counted(count, what) for what, count in sorted(self.translated.items()))
         ordering = f", {self.ordering:,} of which {'adds' if self.ordering == 1 else 'add'} order"
         repairs = counted(sum(self.counts.values()), "repair") + ordering * bool(self.ordering)
         return f"{forms} translated; {repairs}" if forms else repairs

@@ -1,18 +1,14 @@
 """From lines to events: marks, blanks, comments and other spellings."""
 
-from shb_common.refused import MARK, WORDS, hint_of, other_kind
+from shb_common.refused import KIN, MARK, WORDS, hint_of, other_kind, paired
 from shb_common.words import printable
 from shb_fix.events import Event
 
 MARKS = {b"begin", b"end", b"branch"}
 NAMED = WORDS - MARKS
-FOREIGN = {b"vr", b"vw", b"rdlock", b"wrlock", b"rdunlock", b"wrunlock", b"wait", b"notify", b"notifyall"}
-SPELLINGS = {
-    b"read": b"r", b"rd": b"r", b"write": b"w", b"wr": b"w", b"start": b"fork", b"enterbegin": b"begin",
-    b"lock": b"acq", b"acquire": b"acq", b"enter": b"acq", b"unlock": b"rel", b"release": b"rel",
-    b"exit": b"rel", b"volatile_read": b"vr", b"volatile_write": b"vw",
-}
-SPELLING, BRANCH = ("other spelling",), ("branch", "branches")     # forms that are translated
+FOREIGN = set(b"vr vw rdlock wrlock rdunlock wrunlock wait notify notifyall".split())
+SPELLINGS = {**KIN, **paired(b"rd=r wr=w enterbegin=begin enter=acq exit=rel volatile_read=vr "
+                             b"volatile_write=vw")}
 COLUMNS = 60        # of a line that is quoted
 FORM = "a line is THREAD|OPERATION|LOCATION, such as T1|w(x)|a.c:3"
 
@@ -30,11 +26,11 @@ def event_of(number, text, repairs):
         return None
     event = Event(number, fields[0], word, name, fields[2] if len(fields) > 2 else None)
     if word != said:
-        repairs.translate(SPELLING)
+        repairs.translate("other spelling")
     if event._replace(word=said).text().rstrip(b"\n") != text:
         repairs.note(number, "blanks were dropped")
     if word == b"branch":   # of RAPID's: it orders nothing
-        repairs.translate(BRANCH)
+        repairs.translate("branch")
         return event.like(b"begin", b"branch")
     return event
 
@@ -53,7 +49,8 @@ def events_of(file, repairs):
         if event:
             yield event
         else:
-            repairs.note(number, f"`{printable(text, COLUMNS)}` is no event: dropped", kind="is no event: dropped")
+            repairs.note(number, f"`{printable(text, COLUMNS)}` is no event: dropped",
+                         kind="is no event: dropped")
 
 
 def kind_of(file):

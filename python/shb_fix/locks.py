@@ -7,10 +7,6 @@ from shb_fix.events import Event, OWN
 RELEASED = ", and its release wasn't logged: it is released right before"
 VOLATILE, READER = OWN.encode() + b"volatile.", OWN.encode() + b"reader."
 
-# Forms that are translated, of one event and of several.
-ACCESS = "volatile access", "volatile accesses"
-READ_LOCK, WRITE_LOCK, WAIT, NOTIFY = ("reader lock",), ("writer lock",), ("wait",), ("notification",)
-
 
 class Uses:
     """What has to be known of a whole trace: for each volatile write the threads that read the variable
@@ -59,7 +55,7 @@ def with_volatiles(events, uses, repairs):
         else:
             yield event
             continue
-        repairs.translate(ACCESS)
+        repairs.translate("volatile access")
         for lock in locks:
             yield event.like(b"acq", lock)
             yield event.like(b"rel", lock)
@@ -73,11 +69,11 @@ def with_waits(events, repairs):
         if event.thread in waiting:
             yield waiting.pop(event.thread)
         if event.word == b"wait":
-            repairs.translate(WAIT)
+            repairs.translate("wait")
             waiting[event.thread] = event.like(b"acq", event.name)
             yield event.like(b"rel", event.name)
         elif event.word in (b"notify", b"notifyall"):
-            repairs.translate(NOTIFY)
+            repairs.translate("notification")
         else:
             yield event
 
@@ -88,7 +84,7 @@ def with_reader_locks(events, uses, repairs):
     for event in events:
         held = (event.thread, event.name)
         if event.word == b"rdlock":
-            repairs.translate(READ_LOCK)
+            repairs.translate("reader lock")
             reading[held] += 1
             yield event.like(b"acq", event.name + READER + event.thread)
         elif event.word == b"rdunlock" or event.word == b"rel" and reading[held]:
@@ -96,7 +92,7 @@ def with_reader_locks(events, uses, repairs):
             yield event.like(b"rel", event.name + READER + event.thread)
         elif event.word in (b"wrlock", b"acq", b"wrunlock", b"rel"):
             if event.word == b"wrlock":
-                repairs.translate(WRITE_LOCK)
+                repairs.translate("writer lock")
             readers = uses.readers.get(event.name, ())
             names = [event.name, *(event.name + READER + reader for reader in readers)]
             if event.word in (b"wrlock", b"acq"):
@@ -124,8 +120,8 @@ class Sections:
         if event.name in self.known or event.thread in self.forked:
             self.repairs.note(event.line, "the thread doesn't hold this lock: dropped")
             return False
-        self.repairs.note(
-            event.line, "the lock was held when the log began: its holder takes it before the first line", True)
+        self.repairs.note(event.line, "the lock was held when the log began: its holder takes it before the "
+                          "first line", True)
         self.begun.append(Event(0, event.thread, b"acq", event.name, event.location))
         self.holder[event.name], self.depth[event.name] = event.thread, 1
         return True

@@ -80,8 +80,8 @@ def with_early_forks(events, repairs):
         before, earlier = collections.defaultdict(list), dict(moved)
         for fork, place in late.items():
             if fork in earlier:
-                repairs.note(
-                    fork.line, "no place before the first event of its thread is right for this fork: dropped")
+                repairs.note(fork.line, "no place before the first event of its thread is right for this "
+                             "fork: dropped")
                 continue
             moved[fork] = earlier.get(events[place], events[place].line)
             before[place].append(fork)

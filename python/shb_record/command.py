@@ -58,35 +58,36 @@ the recording is incomplete and there is no such race (if a signal killed the pr
 128 + N, is returned instead); 126 or 127 if the program can't be run or isn't there; else the program's own.
 The last lines print the program's own status and the path of the page."""
 OPTIONS = f"""\
--o DIR: the folder of the results (PROGRAM.shb in this folder): for each process with a place its page's trace, the
-  list of its places and a page with its races; places.tsv, places.json, places.sarif and unknown.places; and a
-  list of what was made there. What the list of an earlier call names is replaced, and nothing else. While another
-  call uses DIR, the results go to DIR-2, DIR-3 and so on
+-o DIR: the folder of the results (PROGRAM.shb in this folder): for each process with a place its page's
+  trace, the list of its places and a page with its races; places.tsv, places.json, places.sarif and
+  unknown.places; and a list of what was made there. What the list of an earlier call names is replaced, and
+  nothing else. While another call uses DIR, the results go to DIR-2, DIR-3 and so on
 --runs N: run it N times, each with another interleaving (1); each place is shown once
 --until-found N: run it at most N times, and end after the first run with a race that isn't known
---jobs N: record N runs at once (as many as there are processors; 1 with --replay, and if standard input is a file or
-  pipe that isn't at its end). What they write is in files first, and printed run by run
---join: make one of several folders of results, or their places.json, which PROGRAM and its words name, as of several
-  machines: the tables and index.html, in DIR
---live: show each place while the program runs, once. The run is recorded in segments. If they come faster than they
-  can be analysed, the oldest are dropped, so memory and disk are bounded. A race between two segments is missed
-  (SHB_SEGMENT=N: N records in one)
---replay RUN.turns: run it with the order of turns of an earlier run, as long as that fits. A run with a place that
-  isn't known leaves the list in the folder of its results. If the list is left, it prints after how many turns; from
-  there on the run is like any other
+--jobs N: record N runs at once (as many as there are processors; 1 with --replay, and if standard input is
+  a file or pipe that isn't at its end). What they write is in files first, and printed run by run
+--join: make one of several folders of results, or their places.json, which PROGRAM and its words name, as
+  of several machines: the tables and index.html, in DIR
+--live: show each place while the program runs, once. The run is recorded in segments. If they come faster
+  than they can be analysed, the oldest are dropped, so memory and disk are bounded. A race between two
+  segments is missed (SHB_SEGMENT=N: N records in one)
+--replay RUN.turns: run it with the order of turns of an earlier run, as long as that fits. A run with a
+  place that isn't known leaves the list in the folder of its results. If the list is left, it prints after
+  how many turns; from there on the run is like any other
 --known FILE: places to skip, as unknown.places has them. Lines that match nothing are reported
---fail-on-stale: end with status 67 for lines that match nothing, if no race is unknown. A race that is in few runs
-  needs --runs
---source DIR: look for source files below this folder too; may be given again. Those of the debug information are
-  found without it
+--fail-on-stale: end with status 67 for lines that match nothing, if no race is unknown. A race that is in
+  few runs needs --runs
+--source DIR: look for source files below this folder too; may be given again. Those of the debug
+  information are found without it
 --strip DIR: name files below this folder by their paths from it (shb-std --help)
 --window N: the most events of a page's trace (%(default)s)
---wait N: wait up to N seconds for what outlives the program ({WAIT}), and for processes that SIGINT or SIGTERM is
-  passed on to, before they are killed. If it is given, what is shown after such a signal has N seconds too
+--wait N: wait up to N seconds for what outlives the program ({WAIT}), and for processes that SIGINT or
+  SIGTERM is passed on to, before they are killed. If it is given, what is shown after such a signal has N
+  seconds too
 --log FILE: write to this file what otherwise goes to standard error, which then is the program's alone
 --keep: keep the records (16 bytes per access)
---verify: find the races once more, in a trace that omits nothing, and end with status 125 if they differ. It takes
-  about as long again
+--verify: find the races once more, in a trace that omits nothing, and end with status 125 if they differ.
+  It takes about as long again
 PROGRAM: the program, and the words that it is given
 """
 

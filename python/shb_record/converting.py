@@ -94,8 +94,8 @@ def check_room(process, most_events):
     needed = min(os.path.getsize(process.record) // 2, most_events * LINE_BYTES)
     free = shutil.disk_usage(process.record).free
     if needed > free:
-        raise Refused(f"its page may take about {needed:,} bytes of the disk, and {free:,} are free; --window "
-                      "makes a smaller one")
+        raise Refused(f"its page may take about {needed:,} bytes of the disk, and {free:,} are free; "
+                      "--window makes a smaller one")
 
 
 class Contradiction(Refused):
@@ -103,7 +103,7 @@ class Contradiction(Refused):
 
 
 class Listing(Run):
-    """A running `shb places --list`, which reads an open pipe, or PIPE, and writes to the open file `text`."""
+    """A running `shb places --list`, which reads an open pipe, or PIPE, and writes to an open file."""
 
     def __init__(self, text, pipe):
         super().__init__([ANALYSER, *LIST_VARIABLES], pipe, text, **apart())

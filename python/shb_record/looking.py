@@ -61,7 +61,7 @@ class Look:
                 words = preloading(*self.options.words)
                 hint = f"; for a module with hooks that the program loads later run `{words}`"
                 raise Refused("nothing of the run was recorded" + hint * late)
-            say(f"run {number}: {counted(len(looked), 'recorded process', 'recorded processes')}, none with "
+            say(f"run {number}: {counted(len(looked), 'recorded process')}, none with "
                 "a second thread")
 
     def look_at(self, number, found):

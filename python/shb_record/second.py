@@ -22,9 +22,12 @@ def look(conversion, room, accesses, races):
             Listing(tempfile.TemporaryFile(dir=room), PIPE) as listed:
         listed.give(rest(ran.out, accesses, races, kept_before, seen))
         places = listed.places()
-    return [place._replace(variables={
-        name: race._replace(events=tuple(kept + bisect.bisect_left(kept_before, kept) for kept in race.events))
-        for name, race in place.variables.items()}) for place in places], seen
+
+    def in_whole(race):
+        return race._replace(events=tuple(kept + bisect.bisect_left(kept_before, kept)
+                                          for kept in race.events))
+    return [place._replace(variables={name: in_whole(race) for name, race in place.variables.items()})
+            for place in places], seen
 
 
 def rest(lines, accesses, races, kept_before, seen):

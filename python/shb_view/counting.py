@@ -260,7 +260,8 @@ class Counting:
             for sums, is_bare in ((use.bare, True), (use.held, False), (use.many, False)):
                 for stack, count in sums.items():
                     self.callers[variable, location][stack, is_bare] += count
-            use = use._replace(under=renamed(use.under, kinds.locks), reading=renamed(use.reading, kinds.locks))
+            use = use._replace(under=renamed(use.under, kinds.locks),
+                               reading=renamed(use.reading, kinds.locks))
             if word != b"f":
                 self.used[group].add(use)
             elif freed.setdefault((group, location, name_parts(variable)["block"]), variable) == variable:

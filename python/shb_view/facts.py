@@ -197,7 +197,8 @@ def used_in(counts):
             (reading if shared else under)[shared or lock] = count
         bare, many = {0: count} if locks == () else {}, {0: count} if locks is None else {}
         if count:
-            found.add(Use(word, variable, b"", location, None, {thread: count}, under, reading, bare, {}, many))
+            by = {thread: count}
+            found.add(Use(word, variable, b"", location, None, by, under, reading, bare, {}, many))
     return found
 
 
@@ -285,8 +286,8 @@ def fact_of(sites, locks, whole, published=()):
         published = ()  # beside a lock what is updated is a counter
     if not published:
         frees = [site for site in racing if site.frees]
-        return in_this(whole, frees and (freed_under_lock(sites, racing, frees, locks) or freed(racing, frees))
-                       or not_atomic(racing) or of_locks or no_lock(sites, racing, locks))
+        of_frees = frees and (freed_under_lock(sites, racing, frees, locks) or freed(racing, frees))
+        return in_this(whole, of_frees or not_atomic(racing) or of_locks or no_lock(sites, racing, locks))
     found = publication(published)
     if not of_locks or of_locks.form != "without":
         return found
@@ -342,9 +343,9 @@ def freed_under_lock(sites, racing, frees, locks):
     is_kept = not lacking[found.lock]
     until = ", and as long as the block is used" if is_kept else ", and don't use it after the free"
     after = used_after(racing, frees)
+    more = [*[warning] * is_kept, *[worded(USED, after)] * bool(after)]
     return found.saying({"frees": names_of(frees), "after": names_of(after)},
-                        sentences=[*found.sentences, *[warning] * is_kept, *[worded(USED, after)] * bool(after)],
-                        remedy=[*found.remedy[:-1], f"{until}."])
+                        sentences=[*found.sentences, *more], remedy=[*found.remedy[:-1], f"{until}."])
 
 
 def used_after(racing, frees):
@@ -398,7 +399,7 @@ def not_atomic(racing):
 
 
 def uncounted(sites):
-    count = counted(sum(site.unknown for site in sites), "access", "accesses")
+    count = counted(sum(site.unknown for site in sites), "access")
     return Fact("uncounted", {}, ["locks not counted"], [[f"the locks held at {count} aren't counted."]])
 
 
@@ -527,7 +528,7 @@ def sometimes(sites, racing, lock, locks):
             and site.guards[lock] * 2 > site.total - site.bare]
     if not some:
         return None
-    counts = [[f"{site.guards[lock]:,} of {counted(site.total, 'access', 'accesses')} at ",
+    counts = [[f"{site.guards[lock]:,} of {counted(site.total, 'access')} at ",
                place(site.location)] for site in some]
     lines = {text(site.name): [site.guards[lock], site.total] for site in some}
     name = lock_name(lock)

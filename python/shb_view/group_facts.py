@@ -25,7 +25,8 @@ class Facts:
 
     def __init__(self, counting, whole):
         self.kinds, self.whole = counting.access_kinds, whole
-        self.known, self.are_apart = {}, counting.uses.are_apart  # `known`: by variable what holds of it alone
+        # `known` has by variable what holds of it alone
+        self.known, self.are_apart = {}, counting.uses.are_apart
         self.again = counting.again
         self.private = {lock for lock, threads in counting.lockers.items()  # on the stack of a thread that
                         if lock.startswith(b"stack.") and len(threads) == 1}  # alone uses it

@@ -43,7 +43,8 @@ def entry(view, section, pair, origin, names, variables):
         if location in sites:
             found.update(site_entry(sites[location]))
         found["stacks"] = [
-            {"accesses": count, "frames": [frame_entry(it, view.stacks.sources) for it in frames[:MOST_FRAMES]]}
+            {"accesses": count,
+             "frames": [frame_entry(frame, view.stacks.sources) for frame in frames[:MOST_FRAMES]]}
             for (frames, _), count in section.callers.get(location, ())[:MOST_STACKS] if frames]
         accesses.append(found)
     return {"accesses": accesses,

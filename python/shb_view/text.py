@@ -100,7 +100,7 @@ def stack_lines(callers, threads):
     if len(ranked) > MOST_STACKS:
         rest = sum(count for _, count in ranked[MOST_STACKS:])
         yield (f"     and {counted(len(ranked) - MOST_STACKS, 'more stack')} "
-               f"({counted(rest, 'access', 'accesses')})")
+               f"({counted(rest, 'access')})")
 
 
 def window_lines(window):

@@ -267,7 +267,8 @@ def with_trial(found, whole, moves, good, is_too_long):
     if move:
         tag = [*move.tag, *["; ", *fact.tag] * (fact.form == "freed")]
         tag = fact.tag if fact.said.get("after") else tag
-        fact = fact.saying({"moved": sorted(move.moved.items())}, tag=tag, remedy=[*move.remedy, TRIED[whole]])
+        fact = fact.saying({"moved": sorted(move.moved.items())}, tag=tag,
+                           remedy=[*move.remedy, TRIED[whole]])
     elif not all(good.get(keys_of(pairs), set()).issuperset(its) for its, pairs in fact.handed):
         fact = fact._replace(remedy=[], sentences=[*fact.sentences, *[TOO_LONG] * is_too_long])
     elif fact.handed:

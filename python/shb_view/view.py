@@ -2,6 +2,7 @@
 
 import collections
 import contextlib
+import functools
 import os
 import shlex
 import stat
@@ -111,13 +112,15 @@ def view_of(file, made, kinds, asked, progress, run):
     trace = Trace(file, progress, made.uses.parts)
     count, sections = make_sections(asked, kinds, made, trace, groups, run.unseen)
     title = readable(asked.title or os.path.basename(file.name))
-    source = Source(asked.sources, os.fstat(file.fileno()).st_mtime, stacks.sources if asked.has_recorded else {})
+    source = Source(asked.sources, os.fstat(file.fileno()).st_mtime,
+                    stacks.sources if asked.has_recorded else {})
     notes = [*map(readable, asked.notes), *warnings(file.name)]
     sections = [advised(section, source, stacks.functions)._replace(
         is_asked_for=run.new is None or are_at(run.new, section), is_behind=are_at(run.behind, section))
         for section in sections]
-    return View(title, made, sum(len(group.pairs) for group in groups), count, sections, source, notes, stacks,
-                kinds, list(map(readable, run.about)), readable(run.turns), readable(run.command),
+    pairs = sum(len(group.pairs) for group in groups)
+    return View(title, made, pairs, count, sections, source, notes, stacks, kinds,
+                list(map(readable, run.about)), readable(run.turns), readable(run.command),
                 judge_of(made, file.name))
 
 
@@ -197,12 +200,12 @@ def make_sections(asked, kinds, made, trace, groups, unseen={}):
     try:
         counting.read(trace, made.events)
         facts = Facts(counting, "run" if counting.is_of_run else "trace")
-        found = merged_groups(groups, counting.used, facts)
+        find = functools.partial(merged_groups, groups, counting.used, facts)
+        found = find()
         trials = trials_of(found, facts, counting)
         if trials:
             left = still_racing(asked.shb, trace, list(trials.values()))
-            found = after_trials(found, facts, trials, left,
-                                 lambda: merged_groups(groups, counting.used, facts))
+            found = after_trials(found, facts, trials, left, find)
         found.sort(key=order_of)
         sections = [make_section(it, counting, unseen) for it in found[:MOST_GROUPS]]
         if asked.has_windows:

@@ -113,7 +113,7 @@ def share(count, total, is_bare, threads):
     """How many of a line's accesses have a stack, which threads, and that they hold no lock where others
     do."""
     by = [" by ", *listed(map(Code, sorted(threads)))] * bool(threads)
-    return [f"{count:,} of {counted(total, 'access', 'accesses')}", *by, f", {NO_LOCK}" * is_bare]
+    return [f"{count:,} of {counted(total, 'access')}", *by, f", {NO_LOCK}" * is_bare]
 
 
 def partner_parts(site):
