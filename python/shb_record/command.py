@@ -17,12 +17,11 @@ from shb_common.limits import MOST_EVENTS
 from shb_common.standard import open_standard_files, words_of
 from shb_common.stops import Stops
 from shb_common.words import Refused, counted, printable
-from shb_record.at_once import jobs_of, runs
 from shb_record.converting import Records
 from shb_record.looking import Look
 from shb_record.parts import LIBRARY, check_parts, say
 from shb_record.results import Results
-from shb_record.running import REPLAYED, CannotRun
+from shb_record.running import REPLAYED, CannotRun, jobs_of, runs
 from shb_record.tables import counts, tables_of
 
 MOST_PASSED, WAIT = 8, 10  # known races that are named; seconds
