@@ -35,11 +35,11 @@ def facts_of(trace, stacks, written=None):
         report.seek(0)
         given = view.Given((), report, Verdict(None, ""))
         counts, gathered = Counts(*shb.counts_of(shb.read_trace(trace)[0])), gathered_of(report)
-        kinds = view.Kinds(gathered, Stacks(beside.name, counts.events))
-        shown = types.SimpleNamespace(kinds=kinds, gathered=gathered)
+        gathered.know(Stacks(beside.name, counts.events))
+        shown = types.SimpleNamespace(gathered=gathered)
         made = view.Subject(given, counts, counts.events)
         how = asked()._replace(has_windows=False)
-        for section in view.make_sections(how, kinds, made, Trace(file, QUIET), gathered.groups())[1]:
+        for section in view.make_sections(how, gathered, made, Trace(file, QUIET), gathered.groups())[1]:
             yield result.group_entry(shown, section), [tuple(map(text, pair.locations))
                                                        for pair in section.group.pairs]
 

@@ -263,7 +263,7 @@ class Pages(program.Case):
         stacks = self.file(b"shb-stacks 1 %020d\n" % 11 + bytes(44), "stacks")
         found = view_of_run(recorded_run(trace, its, stacks), asked(), QUIET)
         shown = {section.window.accesses: (section.window.before, section.window.edges,
-                                           picture.picture(section.window, found.kinds)["gaps"])
+                                           picture.picture(section.window, found.gathered)["gaps"])
                  for section in found.sections}
         self.assertEqual(shown, {(5, 7): ([1, 4], [(1, 7)], [0, 1, 0, 0]), (9, 11): ([8], [], [1, 0, 1])})
         locks = {section.window.accesses: section.window.events[section.window.accesses[0]].locks
@@ -421,7 +421,7 @@ def drawn(window):
 
 
 class Words:
-    """Stands in for `counting.Kinds` of a trace that wasn't recorded: each word is what it says."""
+    """Stands in for `groups.Gathered` of a trace that wasn't recorded: each word is what it says."""
 
     stacks = Stacks()
 

@@ -147,7 +147,7 @@ class Trials(program.Case):
             group, said = self.group(lines, words={"f.c:6": "l", "f.c:2": word})
             self.assertEqual((group["form"], group["atomic"], group["plain"], said),
                              ("plain", ["f.c:6"], ["f.c:2"], remedy))
-            kinds = self.view.kinds
+            kinds = self.view.gathered
             self.assertEqual([kinds.of(3, b"w", b"x"), kinds.of(4, b"r", b"x")], [b"w", b"l"])
 
     def test_a_lock_that_is_no_rule(self):

@@ -38,9 +38,9 @@ def sections(text, report, is_good=True):
         written.seek(0)
         given = view.Given((), written, Verdict(is_good, ""))
         counts, gathered = Counts(*shb.counts_of(shb.read_trace(text)[0])), gathered_of(written)
-        kinds = view.Kinds(gathered, view.Stacks())
+        gathered.know(view.Stacks())
         made = view.Subject(given, counts, counts.events)
-        return view.make_sections(asked(), kinds, made, Trace(file, QUIET), gathered.groups())[1]
+        return view.make_sections(asked(), gathered, made, Trace(file, QUIET), gathered.groups())[1]
 
 
 def gathered_of(file):

@@ -34,8 +34,8 @@ def checks(section, source, functions):
     """Racing lines that decide by what they read without the lock, each with the next line of its function
     where a thread of its uses the same with it."""
     def is_after(one, other):
-        places = [line_of(site.name) for site in (one, other)]
-        return all(places) and places[0][0] == places[1][0] and places[0][1] < places[1][1]
+        first, second = line_of(one.name), line_of(other.name)
+        return first and second and first[0] == second[0] and first < second
 
     for site in section.sites:
         if (site.partners and site.lacks(section.fact.lock) and not site.writes()

@@ -31,61 +31,13 @@ Release = collections.namedtuple("Release", "begin end thread lock location is_p
 Repeated = collections.namedtuple("Repeated", "thread word since event")
 
 
-class Kinds:
-    """What an access is, where the trace has it as reads and writes."""
-
-    def __init__(self, gathered, stacks):
-        """`gathered` has the atomic of a variable that stands for what a thread wrote to it; the
-        stacks name locals."""
-        gathered.name_locals(stacks)
-        self.gathered, self.stacks, self.locks = gathered, stacks, stacks.lasting_locals
-        self.atomics, self.locals = gathered.atomics, gathered.locals
-        self.racing = set(map(self.in_trace, gathered.events))
-        self.loads = set()  # variables, each with a location that only loads it atomically
-
-    def of(self, number, word, variable):
-        """The word of `words.KINDS` for an event."""
-        if word != b"w":
-            access = self.loads and self.gathered.accesses.get(number)
-            is_load = access and (self.in_trace(variable), access.location) in self.loads
-            return b"l" if is_load else word
-        return b"a" if variable in self.atomics else b"f" if self.stacks.free_of(number) is not None else word
-
-    def in_trace(self, variable):
-        """The variable as the trace has it; of an atomic that name which its threads have in common."""
-        return self.atomics.get(variable, variable)
-
-    def is_in_life(self, number, variable):
-        """Whether an event is an access of what the variable is named by: where a local lies other functions
-        may have theirs, before and after its own lives."""
-        variable = self.in_trace(variable)
-        return variable not in self.locals or self.stacks.local_of(variable, number) == self.locals[variable]
-
-    def name(self, variable):
-        """The variable as the program has it."""
-        variable = self.in_trace(variable)
-        return self.locals.get(variable, variable)
-
-    def called(self, number, event):
-        """The variable or the lock of an event as the program has it: a variable that races has one name at
-        all events."""
-        if event.word in (b"acq", b"rel"):
-            return called(event.name, self.locks)
-        if event.word not in (b"r", b"w"):
-            return event.name
-        variable, sign, thread = event.name.partition(b"!")
-        name = (self.locals.get(variable) if variable in self.racing
-                else self.stacks.local_of(variable, number))
-        return (name or variable) + sign + thread
-
-
 class Counting:
-    def __init__(self, groups, wanted, kinds, uses):
-        """`groups` has a number for each racing variable; `wanted` are the accesses to be noted, `kinds` says
-        what an access is; `uses` has those of the whole run if the trace is a part of it."""
+    def __init__(self, groups, wanted, gathered, uses):
+        """`groups` has a number for each racing variable; `wanted` are the accesses to be noted, `gathered`
+        says what an access is; `uses` has those of the whole run if the trace is a part of it."""
         self.uses, self.is_of_run = uses, uses.count is not None
-        self.groups, self.wanted, self.access_kinds = groups, wanted, kinds
-        self.racing = kinds.gathered.accesses
+        self.groups, self.wanted, self.gathered = groups, wanted, gathered
+        self.racing = gathered.accesses
         # By group, how many accesses there are of each kind: its location (None where lines aren't told apart
         # any more), thread, word of `words.KINDS`, the names of the locks held (None where they aren't
         # counted), and the variable (not of a free).
@@ -93,7 +45,7 @@ class Counting:
         self.used = collections.defaultdict(Used)  # by group, of the trace or the run
         self.kinds = self.found = 0
         self.noted = {}  # by event
-        self.held, self.lock_of = collections.defaultdict(Held), operations(kinds.locks)  # by thread
+        self.held, self.lock_of = collections.defaultdict(Held), operations(gathered.locks)  # by thread
         # by thread: its last events
         self.recent = collections.defaultdict(lambda: collections.deque(maxlen=BEFORE))
         self.before = {}  # by group and thread: its last access that was counted
@@ -164,7 +116,7 @@ class Counting:
         atomic, or of a lock with readers, has a lock for each other thread."""
         own = re.fullmatch(GIVEN, lock) if b"@" in lock else None
         base, sign, to = own.groups() if own else (lock.partition(b"@")[0], None, None)
-        is_barrier = own and base not in self.access_kinds.stacks.atomics
+        is_barrier = own and base not in self.gathered.stacks.atomics
         takes = (sign == b">") == (to == thread) if sign else is_barrier
         if not takes:
             last, what = self.releases.get(thread), (thread, base, line[len(thread) + len(lock) + 7:])
@@ -192,7 +144,7 @@ class Counting:
             since = self.alike.get((thread, operation, location), 0)
             self.again[variable].append(Repeated(thread, word, since, number))
         self.alike[thread, operation, location] = number
-        kinds, stacks = self.access_kinds, self.access_kinds.stacks
+        gathered, stacks = self.gathered, self.gathered.stacks
         if stacks.numbers:
             self.callers_threads[stacks.numbers[number - 1]].add(thread)
         release, its = self.releases.get(thread), self.follows.setdefault((word, variable, location), {})
@@ -201,13 +153,13 @@ class Counting:
             is_one = not before or self.last[thread] == before[-1] and number not in self.uses.repeated
             its[release] = *before, number
             self.follows[word, variable, location] = its if is_one else None
-        if self.is_of_run and number not in self.wanted or not kinds.is_in_life(number, variable):
+        if self.is_of_run and number not in self.wanted or not gathered.is_in_life(number, variable):
             return
         held = self.held[thread]
         if number in self.wanted:
             self.noted[number] = Noted(tuple(self.recent[thread]), held.newest()[0])
         if not self.is_of_run:
-            word, of = kinds.of(number, word, variable), kinds.in_trace(variable)
+            word, of = gathered.of(number, word, variable), gathered.in_trace(variable)
             if stacks.numbers:
                 self.callers[of, location][stacks.numbers[number - 1], not held.locks] += 1
             free, of = (stacks.free_of(number), b"") if word == b"f" else (None, of)
@@ -223,7 +175,7 @@ class Counting:
         is_next = last is not None and self.recent[thread][-1] == last
         if word == b"f" and free == last_free:
             return
-        if (is_next and word == b"r" and kind == last_kind and variable in self.access_kinds.atomics
+        if (is_next and word == b"r" and kind == last_kind and variable in self.gathered.atomics
             and variable != last_variable):
             return
         if is_next and word == b"a" and last_kind == (*kind[:2], b"r", *kind[3:]):
@@ -237,7 +189,7 @@ class Counting:
     def see(self):
         """Notes the races that read what they wrote, here or, as the uses say, elsewhere in the run."""
         for name in self.groups:
-            for race in self.access_kinds.gathered.races([name]):
+            for race in self.gathered.races([name]):
                 (first, second), (one, other) = race.events, race.accesses
                 lines = race.place if one.word == b"w" else race.place[::-1]
                 if (self.sources.get(second) == first
@@ -247,21 +199,22 @@ class Counting:
     def take_uses(self):
         """Takes the uses of the whole run. A free is one of all variables of its block: those of one
         of them count."""
-        kinds, freed = self.access_kinds, {}
+        gathered, freed = self.gathered, {}
         loads, reads = ({(use.variable, use.location) for use in self.uses.uses if use.word == word}
                         for word in READS)
-        kinds.loads = loads - reads
-        groups = {kinds.in_trace(variable): group for variable, group in self.groups.items()}
+        gathered.loads = loads - reads
+        groups = {gathered.in_trace(variable): group for variable, group in self.groups.items()}
         for use in self.uses.uses:
             word, variable, local, location, *_ = use
             group = groups.get(variable)
-            if group is None or kinds.locals.get(variable, local) != local and variable.startswith(b"stack."):
+            if (group is None
+                or gathered.locals.get(variable, local) != local and variable.startswith(b"stack.")):
                 continue
             for sums, is_bare in ((use.bare, True), (use.held, False), (use.many, False)):
                 for stack, count in sums.items():
                     self.callers[variable, location][stack, is_bare] += count
-            use = use._replace(under=renamed(use.under, kinds.locks),
-                               reading=renamed(use.reading, kinds.locks))
+            use = use._replace(under=renamed(use.under, gathered.locks),
+                               reading=renamed(use.reading, gathered.locks))
             if word != b"f":
                 self.used[group].add(use)
             elif freed.setdefault((group, location, name_parts(variable)["block"]), variable) == variable:

@@ -57,13 +57,13 @@ class Site:
         return self.accesses[b"f"]
 
     def reads(self):
-        return not self.accesses.keys().isdisjoint(READS)
+        return any(self.accesses[word] for word in READS)
 
     def writes(self):
-        return not self.accesses.keys() <= set(READS)
+        return self.total > sum(self.accesses[word] for word in READS)
 
     def is_atomic(self):
-        return not self.accesses.keys().isdisjoint((b"a", b"l"))
+        return any(self.accesses[word] for word in (b"a", b"l"))
 
     def fills(self):
         """Whether it seems to fill new blocks: it writes each variable once, and doesn't race."""
@@ -264,16 +264,15 @@ def sites_of(group, used, *words):
             sites[use.location] = Site(use.location)
         sites[use.location].add(use, locks.named[use.variable])
     for pair in group.pairs:
-        one, other = pair.locations
-        for location, partner in {(one, other), (other, one)}:
+        for location, partner in (pair.locations, pair.locations[::-1]):
             if location in sites:
                 sites[location].partners.add(partner)
         for first, second in pair.places:
             if first in sites:
                 sites[first].later.add(second)
-    order = sorted(sites.values(), key=lambda site: (site.location is None, by_numbers(site.name)))
-    return (sorted(order, key=lambda site: (site.location not in racing, not site.writes(), -site.total)),
-            locks)
+    return sorted(sites.values(), key=lambda site: (
+        site.location not in racing, not site.writes(), -site.total, site.location is None,
+        by_numbers(site.name))), locks
 
 
 def fact_of(sites, locks, whole, published=()):

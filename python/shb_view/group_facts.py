@@ -24,14 +24,14 @@ class Facts:
     """Makes facts of groups. `whole` is what they are of: a trace or a run."""
 
     def __init__(self, counting, whole):
-        self.kinds, self.whole = counting.access_kinds, whole
+        self.gathered, self.whole = counting.gathered, whole
         # `known` has by variable what holds of it alone
         self.known, self.are_apart = {}, counting.uses.are_apart
         self.again = counting.again
         self.private = {lock for lock, threads in counting.lockers.items()  # on the stack of a thread that
                         if lock.startswith(b"stack.") and len(threads) == 1}  # alone uses it
         self.refuted = set()  # variables of which a trial says that they race whatever hands them on
-        stacks = self.kinds.stacks
+        stacks = self.gathered.stacks
         # a spin lock of the program's own can't be seen
         self.word = "mutex" if any(use.kind in (b"exchange", b"update") for use in stacks.uses) else "lock"
         self.pairs = handed(stacks.uses, len(stacks.free_starts) > 0, stacks.lasting_locals)
@@ -45,11 +45,11 @@ class Facts:
 
     def of_all(self, group, uses):
         """What holds of a group's uses, whichever variable they are of."""
-        sites, locks = sites_of(group, uses, self.private, self.kinds.name, self.word,
-                                self.kinds.stacks.others)
+        sites, locks = sites_of(group, uses, self.private, self.gathered.name, self.word,
+                                self.gathered.stacks.others)
         may_hand = self.pairs and not self.has_far(group)
-        races = self.kinds.gathered.races_at(group.names) if may_hand else {}
-        by = published(races, self.pairs, lambda event: self.kinds.stacks.free_of(event) is not None)
+        races = self.gathered.races_at(group.names) if may_hand else {}
+        by = published(races, self.pairs, lambda event: self.gathered.stacks.free_of(event) is not None)
         fact, pairs = fact_of(sites, locks, self.whole, by), [pair for pair, _ in by]
         if fact.form == "published":
             fact = fact._replace(handed=((group.names, pairs),))
@@ -60,7 +60,7 @@ class Facts:
     def has_far(self, group):
         """Whether the page's trace lacks something between the accesses of a race: then it says
         nothing of that."""
-        return any(self.are_apart(*race.events) for race in self.kinds.gathered.races(group.names))
+        return any(self.are_apart(*race.events) for race in self.gathered.races(group.names))
 
     def with_gone(self, group, fact):
         """A fact, with the lines that use a local of another thread when that has the system's ones there."""
@@ -69,17 +69,17 @@ class Facts:
         if len(owners) != 1 or fact.form not in ("no-lock", "apart"):
             return fact
         [owner], lines = owners, set()
-        for race in self.kinds.gathered.races(group.names):
+        for race in self.gathered.races(group.names):
             event, other = race.events if race.threads[0] == owner else race.events[::-1]
-            local = self.kinds.stacks.local_of(variable_of(race), event).rpartition(b" of ")[2]
+            local = self.gathered.stacks.local_of(variable_of(race), event).rpartition(b" of ")[2]
             is_of_system = local and last_name(local) in self.system_at(event)
             if owner in race.threads and is_of_system and not self.system_at(other):
-                lines.add(self.kinds.gathered.accesses[other].location)
+                lines.add(self.gathered.accesses[other].location)
         return fact.of_gone(owner, lines) if lines else fact
 
     def system_at(self, event):
         """The system's function that an event is in, in a list, or none."""
-        return [last_name(frame.function) for frame in self.kinds.stacks.of_event(event)[:1]
+        return [last_name(frame.function) for frame in self.gathered.stacks.of_event(event)[:1]
                 if frame.in_system]
 
     def come_again(self, names, races, pairs):
@@ -96,7 +96,7 @@ class Facts:
         the group's form."""
         names, alike = {}, {}
         for name in found.group.names:
-            names.setdefault(self.kinds.in_trace(name), []).append(name)
+            names.setdefault(self.gathered.in_trace(name), []).append(name)
         alone = {variable: self.alone(found, variable, its) for variable, its in names.items()}
         forms = {one.fact.form for one in alone.values()}
         is_whole = found.fact.form == "without" and forms <= {"without", "freed", "sometimes", "apart"}
@@ -106,7 +106,7 @@ class Facts:
             alike.setdefault((one.fact.form, str(one.fact.tag)), []).append(variable)
         parts = []
         for (form, _), its in alike.items():
-            part = part_of(found.group, sum((names[one] for one in its), []), self.kinds)
+            part = part_of(found.group, sum((names[one] for one in its), []), self.gathered)
             together = self.of_all(part, joined(map(found.uses.of, its)))
             parts += [together] if together.fact.form == form else [alone[one] for one in its]
         return sorted(parts, key=lambda one: RANKS[one.fact.form])
@@ -114,14 +114,14 @@ class Facts:
     def alone(self, found, variable, names):
         """What holds of one variable, in each group that it is in: only frees are of all variables."""
         if found.uses.frees or variable not in self.known:
-            part = part_of(found.group, names, self.kinds)
+            part = part_of(found.group, names, self.gathered)
             self.known[variable] = self.of_all(part, found.uses.of(variable))
         return self.known[variable]
 
     def mixed(self, parts):
         """What is said of a group whose variables differ: the fact of each part."""
         names = [listed(map(Code, one.group.variables)) for one in parts]
-        said = [fact_entry(one, self.kinds) for one in parts]
+        said = [fact_entry(one, self.gathered) for one in parts]
         sentences = [[*its, ": ", *sentence] for its, one in zip(names, parts)
                      for sentence in one.fact.sentences]
         remedy = [part for its, one in zip(names, parts) if one.fact.remedy
@@ -137,21 +137,21 @@ def last_name(function):
     return bare(function).rpartition(b"::")[2]
 
 
-def fact_entry(one, kinds):
+def fact_entry(one, gathered):
     """The fact of a group, as programs read it: with its variables, the races that were looked at and its
     pairs of lines."""
-    races = kinds.gathered.races_at(one.group.names).values()
+    races = gathered.races_at(one.group.names).values()
     return {"form": one.fact.form, "group": list(map(text, one.group.names)), **one.fact.said,
             "all_races": sorted(race.events for its in races for race in its[:MOST_RACES]),
             "pairs": [list(map(text, pair)) for pair in sorted(one.group.places())]}
 
 
-def part_of(group, names, kinds):
+def part_of(group, names, gathered):
     """A group's races of some of its variables, by their names in the trace."""
-    found = {race.place for race in kinds.gathered.races(names)}
+    found = {race.place for race in gathered.races(names)}
     parts = ((pair, tuple(place for place in pair.places if place in found)) for pair in group.pairs)
     pairs = tuple(Pair(pair.locations, pair.closest, places) for pair, places in parts if places)
-    return Group(pairs, tuple(dict.fromkeys(map(kinds.name, names))), tuple(names))
+    return Group(pairs, tuple(dict.fromkeys(map(gathered.name, names))), tuple(names))
 
 
 def merged_groups(groups, used, facts):

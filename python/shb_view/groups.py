@@ -8,6 +8,7 @@ import re
 
 from shb_common.report import Race
 from shb_common.variables import MOST_VARIABLES, atomic_of
+from shb_view.held import called
 from shb_view.words import Code
 
 MOST_SHOWN = 64  # pairs of a group of which one is shown
@@ -73,7 +74,8 @@ class Union:
 
 
 class Gathered(Union):
-    """The races of a report, as pairs and groups: a pair or a variable belongs to its group."""
+    """The races of a report, as pairs and groups: a pair or a variable belongs to its group. It tells what an
+    access is, where the trace has it as reads and writes."""
 
     def __init__(self):
         super().__init__()
@@ -83,6 +85,7 @@ class Gathered(Union):
         self.listed = []  # those with a race that may be shown, in the order of the report
         self.accesses = {}  # by event, of the races that were read
         self.events = {}  # by variable: the two events of each of these races, one after the other
+        self.loads = set()  # variables, each with a location that only loads it atomically
 
     def share(self, race):
         """Takes a race of a variable, once."""
@@ -135,16 +138,53 @@ class Gathered(Union):
                 found[race.place].add(name)
         return found
 
-    def name_locals(self, stacks):
-        """Takes the names of locals: of a variable that is the same one at all events of its races."""
-        found = {}
+    def know(self, stacks):
+        """Takes the names of locals once all races are there: of a variable that is the same one at all
+        events of its races."""
+        self.stacks, self.locks, found = stacks, stacks.lasting_locals, {}
         for name, events in self.events.items():
-            variable = self.atomics.get(name, name)
+            variable = self.in_trace(name)
             if variable in stacks.locals:
                 names = {stacks.local_of(variable, event) for event in set(events)}
                 found.setdefault(variable, set()).update(names)
         self.locals = {variable: names.pop() for variable, names in found.items() if len(names) == 1
                        and b"" not in names}
+        self.racing = set(map(self.in_trace, self.events))
+
+    def of(self, number, word, variable):
+        """The word of `words.KINDS` for an event."""
+        if word != b"w":
+            access = self.loads and self.accesses.get(number)
+            is_load = access and (self.in_trace(variable), access.location) in self.loads
+            return b"l" if is_load else word
+        return b"a" if variable in self.atomics else b"f" if self.stacks.free_of(number) is not None else word
+
+    def in_trace(self, variable):
+        """The variable as the trace has it; of an atomic that name which its threads have in common."""
+        return self.atomics.get(variable, variable)
+
+    def is_in_life(self, number, variable):
+        """Whether an event is an access of what the variable is named by: where a local lies other functions
+        may have theirs, before and after its own lives."""
+        variable = self.in_trace(variable)
+        return variable not in self.locals or self.stacks.local_of(variable, number) == self.locals[variable]
+
+    def name(self, variable):
+        """The variable as the program has it."""
+        variable = self.in_trace(variable)
+        return self.locals.get(variable, variable)
+
+    def called(self, number, event):
+        """The variable or the lock of an event as the program has it: a variable that races has one name at
+        all events."""
+        if event.word in (b"acq", b"rel"):
+            return called(event.name, self.locks)
+        if event.word not in (b"r", b"w"):
+            return event.name
+        variable, sign, thread = event.name.partition(b"!")
+        name = (self.locals.get(variable) if variable in self.racing
+                else self.stacks.local_of(variable, number))
+        return (name or variable) + sign + thread
 
     def groups(self):
         """The groups, in the order in which the report names them."""
@@ -155,7 +195,7 @@ class Gathered(Union):
             if isinstance(name, bytes):
                 found[self.top(name)][1].append(self.locals.get(name, name))
         for name in self.events:
-            found[self.top(self.atomics.get(name, name))][2].append(name)
+            found[self.top(self.in_trace(name))][2].append(name)
         return [Group(tuple(pairs), tuple(dict.fromkeys(variables)), tuple(names))
                 for pairs, variables, names in found.values()]
 

@@ -19,11 +19,11 @@ def issue_lines(view, section):
         yield from (flat(parts) for parts in told_of(section))
         return
     one, other = map(window.events.get, window.accesses)
-    yield (f"data race on {short(view.kinds.name(one.name), NAME)}: "
+    yield (f"data race on {short(view.gathered.name(one.name), NAME)}: "
            f"{flat([place(one.location), ' and ', place(other.location)])}")
     for access in window.accesses:
         yield from access_lines(view, window, access)
-    allocated = stack_lines(view.stacks.of_variable(view.kinds.in_trace(one.name)))
+    allocated = stack_lines(view.stacks.of_variable(view.gathered.in_trace(one.name)))
     if allocated:
         yield "  the block was allocated at"
         yield from allocated
@@ -34,7 +34,7 @@ def issue_lines(view, section):
 def access_lines(view, window, access):
     """An access, its line of code, the locks that its thread holds, and how the thread was started."""
     shown, fork = window.events[access], window.forks[access]
-    yield (f"  {KINDS[view.kinds.of(access, shown.word, shown.name)]} by "
+    yield (f"  {KINDS[view.gathered.of(access, shown.word, shown.name)]} by "
            f"{flat([Code(shown.thread), ' at ', place(shown.location)])} (event {access})")
     code = view.source.code(shown.location)
     if code is not None:

@@ -131,7 +131,7 @@ def group_data(view, section, tables):
               bool(site.partners)]
              for site in section.sites[:MOST_SITES]]
     sides = [side_data(view, section, access, tables) for access in section.window.accesses]
-    drawn = picture(section.window, view.kinds)
+    drawn = picture(section.window, view.gathered)
     return {"about": list(map(told, about(section))), "sides": sides,
             "note": order_text(view, section.window),
             "picture": drawn, "again": again(view, section), "sites": sites,
@@ -148,7 +148,7 @@ def side_data(view, section, access, tables):
     found, frames = view.source.place(row.location), view.stacks.of_event(access)
     locks = listed([lock_parts(lock) for lock, _ in row.locks], len(row.locks))
     side = {"at": told([place(row.location)]),
-            "verb": VERBS[view.kinds.of(access, row.word, row.name)],
+            "verb": VERBS[view.gathered.of(access, row.word, row.name)],
             "thread": short(row.thread, NAME),
             "locks": told(["holding ", *locks] if locks else [NO_LOCK]), "bare": not locks,
             "stack": tables.add(frames), "fault": found.fault if found else ""}

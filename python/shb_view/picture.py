@@ -28,12 +28,12 @@ Edge = collections.namedtuple("Edge", "first second is_seen")
 Bar = collections.namedtuple("Bar", "lane name top bottom")
 
 
-def picture(window, kinds):
+def picture(window, gathered):
     """`x` has the place of each lane and `texts` that of all texts, `band` is the top of the band
     with both accesses."""
     ends = {event for edge in window.edges for event in edge}
     before = [shown for shown in map(window.events.get, window.before)
-              if shown.number in ends or not version_of(kinds, shown)]
+              if shown.number in ends or not version_of(gathered, shown)]
     accesses = list(map(window.events.get, window.accesses))
     rows = [*before, *accesses]
     lanes = {thread: lane
@@ -42,7 +42,7 @@ def picture(window, kinds):
     drawn = Layout(len(lanes), [lanes[shown.thread] for shown in rows], edges, bars_of(rows, lanes))
     return {"lanes": [short(thread, TEXT) for thread in lanes], "x": drawn.x, "texts": drawn.texts,
             "band": drawn.band, "height": drawn.band + 26 + 3 * ROW,
-            "events": [event_data(shown, kinds, drawn, at) for at, shown in enumerate(rows)],
+            "events": [event_data(shown, gathered, drawn, at) for at, shown in enumerate(rows)],
             "gaps": gaps(rows),
             "edges": [[*drawn.arrow(it), int(edge.is_seen)] for it, edge in enumerate(edges)],
             "bars": [[*drawn.rectangle(it), bar.name, drawn.name(it)] for it, bar in enumerate(drawn.bars)]}
@@ -125,12 +125,12 @@ def slots(spans):
     return found, collections.Counter(group for group, _ in taken)
 
 
-def event_data(shown, kinds, drawn, at):
+def event_data(shown, gathered, drawn, at):
     """An event with its lane, its height and that of its texts, what these are, and its tip."""
-    does = WORDS[kinds.of(shown.number, shown.word, shown.name)]
+    does = WORDS[gathered.of(shown.number, shown.word, shown.name)]
     location = short(shown.location, TEXT) if shown.location else "(no location)"
-    version = version_of(kinds, shown)
-    if version and shown.name.partition(b"@")[0] in kinds.stacks.atomics:
+    version = version_of(gathered, shown)
+    if version and shown.name.partition(b"@")[0] in gathered.stacks.atomics:
         does = ATOMICALLY[shown.word]
     name = short(shown.called[:version.start()] if version else shown.called or b"", TEXT - 9)
     others = [lock for lock in drawn.unnamed(at) if lock != name] if at < drawn.last else []
@@ -148,10 +148,10 @@ def gaps(rows):
     return found
 
 
-def version_of(kinds, shown):
+def version_of(gathered, shown):
     """What follows the name of a lock that stands for a version of an atomic, a semaphore or the like in a
     recorded run, or nothing. Its events are drawn only where an arrow ends."""
-    of_lock = kinds.stacks.numbers and shown.word in (b"acq", b"rel") and shown.called
+    of_lock = gathered.stacks.numbers and shown.word in (b"acq", b"rel") and shown.called
     return of_lock and re.search(VERSION, of_lock)
 
 

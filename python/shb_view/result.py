@@ -17,7 +17,7 @@ def document(view):
     """The places of the groups that are shown, as `result.document` has them."""
     pairs = [(number, section, pair) for number, section in enumerate(view.sections, 1)
              for pair in section.group.pairs]
-    variables = view.kinds.gathered.variables()
+    variables = view.gathered.variables()
     origin, names = naming(view.stacks, {location for _, _, pair in pairs for location in pair.locations})
     places = [{**entry(view, section, pair, origin, names, variables), "group": number}
               for number, section, pair in pairs]
@@ -48,8 +48,8 @@ def entry(view, section, pair, origin, names, variables):
             for (frames, _), count in section.callers.get(location, ())[:MOST_STACKS] if frames]
         accesses.append(found)
     return {"accesses": accesses,
-            "variables": [{"name": name} for name in sorted({result.text(without_block(view.kinds.name(name)))
-                                                             for name in its})],
+            "variables": [{"name": name} for name in sorted({
+                result.text(without_block(view.gathered.name(name))) for name in its})],
             **({"blamed": named(blamed, origin, names)} if blamed else {}),
             **({"about": flat(common_name(of.group.variables))} if len(of.group.variables) > 1 else {}),
             "headline": flat(of.fact.tag), "remedy": flat(of.fact.remedy),
@@ -65,9 +65,9 @@ def named(location, origin, names):
 def group_entry(view, section):
     """The fact of a group, with what else is known of its race; of variables on stacks the locals that they
     are."""
-    names, locals = section.group.names, view.kinds.locals
+    names, locals = section.group.names, view.gathered.locals
     unseen = {"perhaps_ordered_by": list(map(result.text, section.unseen))} if section.unseen else {}
-    return {**fact_entry(section, view.kinds), **unseen, **schedule_entry(view, section.window),
+    return {**fact_entry(section, view.gathered), **unseen, **schedule_entry(view, section.window),
             "locals": {result.text(name): result.text(locals[name]) for name in names if name in locals}}
 
 

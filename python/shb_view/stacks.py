@@ -33,7 +33,7 @@ def origins(view, section):
     threads = sorted({thread for site in section.sites if site.partners for thread in site.threads})
     found = told_together("thread", "created", [(it, view.stacks.of_thread(it)) for it in threads])
     blocks = {re.sub(OFFSET, b"", name): view.stacks.of_variable(name)
-              for name in map(view.kinds.in_trace, section.group.names)}
+              for name in map(view.gathered.in_trace, section.group.names)}
     found += told_together("block", "allocated", blocks.items())
     window = section.window
     for shown in [window.events[access] for access in window.accesses] if window else []:

@@ -37,7 +37,7 @@ def trials_of(found, facts, counting):
         named.setdefault(keys_of(pairs), set()).update(names)
     for keys, names in named.items():
         pairs = [pair for its in facts.pairs.values() for pair in its if pair.key() in keys]
-        trials[keys] = Change(names, ordered(facts.kinds.stacks.uses, pairs))
+        trials[keys] = Change(names, ordered(facts.gathered.stacks.uses, pairs))
     for one in found:
         if one.fact.form in MOVED and one.fact.remedy and not facts.has_far(one.group):
             moves = [*moves_of(one, counting, True), one.fact.form == "no-lock" and move_of(one, counting),
@@ -52,7 +52,7 @@ def trials_of(found, facts, counting):
 def stale_of(found, facts, counting):
     """What shows whether nothing orders uses behind the allocation of their block, where another one had
     been. None if not all blocks of a group are such ones, or an atomic may order a use."""
-    gathered, stacks = facts.kinds.gathered, facts.kinds.stacks
+    gathered, stacks = facts.gathered, facts.gathered.stacks
     before, lines = collections.defaultdict(list), {}
     for race in gathered.races(found.group.names):
         again = stacks.again.get(block_of(race.accesses[0].name))
@@ -74,7 +74,7 @@ def stale_of(found, facts, counting):
 def moves_of(found, counting, are_posts):
     """Of each racing line without a lock the move of its accesses before the last release of their threads,
     if each has its own: by that a thread may hand on what the line still uses. All are posts, or not all."""
-    locks, stacks, names = counting.access_kinds.locks, counting.access_kinds.stacks, found.group.names
+    locks, stacks, names = counting.gathered.locks, counting.gathered.stacks, found.group.names
     for site in found.sites:
         if not site.partners or site.frees or site.is_atomic() or site.bare < site.total:
             continue
@@ -100,7 +100,7 @@ def moves_of(found, counting, are_posts):
 def move_of(found, counting):
     """The move of a thread's only accesses that would order the races of a group, or None: an access that
     comes after its thread creates the others that race with it, or before it joins them."""
-    gathered = counting.access_kinds.gathered
+    gathered = counting.gathered
     family = family_of({race.threads for race in gathered.races(found.group.names)}, counting.begins)
     if not family:
         return None
@@ -118,7 +118,7 @@ def move_of(found, counting):
     elif words == {b"w"} and not repeating and all(uses_once(found.uses, other, False) for other in others):
         step = min((counting.begins[other] for other in others), key=lambda it: it.event)
         event, where, when = step.event, "before the thread's creation", "after the thread's creation"
-    if not step or not are_in_one(counting.access_kinds.stacks, moved, step.event):
+    if not step or not are_in_one(counting.gathered.stacks, moved, step.event):
         return None
     to = place(event_of(without_end(step.line)).location)
     at, more = ([site for site in found.sites if site.partners and (site.location in lines) == is_moved]
@@ -141,7 +141,7 @@ def are_in_one(stacks, events, step):
 def are_moved(site, found, counting, moved):
     """Whether these events have all racing accesses of a group at a line, and none stands for several behind
     one release: none does at a line with repeats behind releases of their own."""
-    racing = {event for race in counting.access_kinds.gathered.races(found.group.names)
+    racing = {event for race in counting.gathered.races(found.group.names)
               for event, access in race.sides() if access.location == site.location}
     once = counting.uses.once
     is_behind_one = moved & once and not moved & counting.uses.repeated - once

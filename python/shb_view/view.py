@@ -16,7 +16,7 @@ from shb_common.variables import without_block
 from shb_common.words import Refused
 from shb_view.advice import advised
 from shb_view.analyser import Analyser, Verdict
-from shb_view.counting import Counting, Kinds
+from shb_view.counting import Counting
 from shb_view.facts import RANKS, blamed_of
 from shb_view.group_facts import Facts, merged_groups
 from shb_view.groups import MOST_SHOWN, Gathered
@@ -66,7 +66,7 @@ RecordedRun = collections.namedtuple("RecordedRun",
 NO_RUN = RecordedRun(*[None] * 5)  # of a trace alone
 
 
-class View(collections.namedtuple("View", "title made pairs groups sections source notes stacks kinds "
+class View(collections.namedtuple("View", "title made pairs groups sections source notes stacks gathered "
                                           "about turns command judge")):
     """All that is shown. `pairs` and `groups` are how many there are, `sections` those that are shown.
     `notes` are what the caller said of the trace, `about` what it said of the recorder. `judge` is the
@@ -93,24 +93,25 @@ def make_view(path, stacks, asked, progress, run=NO_RUN):
         file, gathered = room.enter_context(open_regular(path)), Gathered()
         made = of_trace(asked, file, gathered, room)
         try:
-            kinds = Kinds(gathered, Stacks(stacks, made.events))
+            gathered.know(Stacks(stacks, made.events))
         except BadStacks as fault:
             raise BadStacks(f"{readable(stacks)} {fault}") from None
-        return view_of(file, made, kinds, asked, progress, run)
+        return view_of(file, made, gathered, asked, progress, run)
 
 
 def view_of_run(run, asked, progress):
     with contextlib.ExitStack() as room:
         file, gathered = room.enter_context(open(run.trace, "rb")), Gathered()
         made = of_run(run, asked, file, gathered, room)
-        return view_of(file, made, Kinds(gathered, run.stacks), asked, progress, run)
+        gathered.know(run.stacks)
+        return view_of(file, made, gathered, asked, progress, run)
 
 
-def view_of(file, made, kinds, asked, progress, run):
+def view_of(file, made, gathered, asked, progress, run):
     """The view of the races of an open trace, with what the recorder hands over."""
-    groups, stacks = kinds.gathered.groups(), kinds.stacks
+    groups, stacks = gathered.groups(), gathered.stacks
     trace = Trace(file, progress, made.uses.parts)
-    count, sections = make_sections(asked, kinds, made, trace, groups, run.unseen)
+    count, sections = make_sections(asked, gathered, made, trace, groups, run.unseen)
     title = readable(asked.title or os.path.basename(file.name))
     source = Source(asked.sources, os.fstat(file.fileno()).st_mtime,
                     stacks.sources if asked.has_recorded else {})
@@ -119,7 +120,7 @@ def view_of(file, made, kinds, asked, progress, run):
         is_asked_for=run.new is None or are_at(run.new, section), is_behind=are_at(run.behind, section))
         for section in sections]
     pairs = sum(len(group.pairs) for group in groups)
-    return View(title, made, pairs, count, sections, source, notes, stacks, kinds,
+    return View(title, made, pairs, count, sections, source, notes, stacks, gathered,
                 list(map(readable, run.about)), readable(run.turns), readable(run.command),
                 judge_of(made, file.name))
 
@@ -188,7 +189,7 @@ def open_regular(path):
     return open(path, "rb")
 
 
-def make_sections(asked, kinds, made, trace, groups, unseen={}):
+def make_sections(asked, gathered, made, trace, groups, unseen={}):
     """How many groups there are, and those that are shown, in their order; the first MOST_DETAILED with their
     windows if these are asked for."""
     if not groups:
@@ -196,7 +197,7 @@ def make_sections(asked, kinds, made, trace, groups, unseen={}):
     wanted = {event for group in groups for pair in group.pairs[:MOST_SHOWN]
               for event in pair.closest.events}
     variables = {variable: number for number, group in enumerate(groups) for variable in group.names}
-    counting = Counting(variables, wanted, kinds, made.uses)
+    counting = Counting(variables, wanted, gathered, made.uses)
     try:
         counting.read(trace, made.events)
         facts = Facts(counting, "run" if counting.is_of_run else "trace")
@@ -227,23 +228,23 @@ def order_of(found):
 
 def make_section(found, counting, calls):
     """A group as it is shown, but for its window."""
-    places, kinds = found.group.places(), counting.access_kinds
+    places = found.group.places()
     seen = sorted((pair for pair in counting.seen if tuple(sorted(pair)) in places),
                   key=lambda pair: list(map(by_numbers, pair)))
     callers, threads = callers_of(found.group, counting)
-    return found._replace(callers=callers, seen=seen, threads=threads,
-                          unseen=perhaps_ordered(found.sites, callers, kinds.stacks, calls) if calls else [])
+    unseen = perhaps_ordered(found.sites, callers, counting.gathered.stacks, calls) if calls else []
+    return found._replace(callers=callers, seen=seen, threads=threads, unseen=unseen)
 
 
 def callers_of(group, counting):
     """The stacks of a group's racing lines, each with whether it is told that no lock is held; and the
     threads that have each stack, as far as the trace tells."""
-    kinds, found, threads = counting.access_kinds, {}, collections.defaultdict(set)
+    gathered, found, threads = counting.gathered, {}, collections.defaultdict(set)
     for location in group.locations():
         stacks = collections.Counter()
-        for variable in dict.fromkeys(map(kinds.in_trace, group.names)):
+        for variable in dict.fromkeys(map(gathered.in_trace, group.names)):
             for (stack, is_bare), count in counting.callers[variable, location].items():
-                frames = kinds.stacks.stack(stack)
+                frames = gathered.stacks.stack(stack)
                 stacks[frames, is_bare] += count
                 threads[frames] |= counting.callers_threads.get(stack, set())
         is_told = len({is_bare for _, is_bare in stacks}) > 1

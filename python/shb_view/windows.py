@@ -67,14 +67,14 @@ def make_windows(trace, races, counting, order):
     moments, seen = moments_of(trace, wanted, sources, counting)
     seen.update(joined)
     found = trace.find(moments)
-    shown = {number: shown_event(number, found[number], counting.access_kinds, moment, seen.get(number, 0))
+    shown = {number: shown_event(number, found[number], counting.gathered, moment, seen.get(number, 0))
              for number, moment in moments.items()}
     return [window(race, counting, forks, shown, order) for race in races]
 
 
-def shown_event(number, found, kinds, moment, source):
+def shown_event(number, found, gathered, moment, source):
     event = event_of(found.line)
-    name = kinds.called(number, event)
+    name = gathered.called(number, event)
     line = line_of(event._replace(name=name)) if name != event.name else found.line
     return Shown(*event, number, found.row, line, name, source, *moment)
 
