@@ -25,7 +25,8 @@ sys.path[:0] = [str(HERE), str(SOURCES.parent / "tests")]
 import test_record
 from test_record import entry
 
-SANITIZERS = ["-fsanitize=address,undefined", "-fno-sanitize-recover=all"]
+SANITIZERS = ["-fsanitize=address,undefined", "-fno-sanitize-recover=all",
+              "-fno-sanitize-coverage=trace-cmp"]  # a process's compared values don't come back to libFuzzer
 HEADER = b"command a b\n0 ffff 0 /nowhere/a\n10000 20000 10000 /nowhere/libb.so\n"
 
 
@@ -176,8 +177,6 @@ def build(name, folder):
 def main(seconds, folder, names):
     folder = pathlib.Path(folder).resolve()
     folder.mkdir(parents=True, exist_ok=True)
-    (folder / "module-reader").write_text('#!/bin/sh\nexec cat "$SHB_ANSWERS"\n')  # of "answers"
-    (folder / "module-reader").chmod(0o755)
     header = ((test_record.HEADER.rstrip(b"whole\0") + b"0 ffffff 0 /nowhere/a\n").ljust(65536 - 256, b"\0")
               + test_record.HEADER[-256:])
     (folder / "uses.cc").write_text(USES)
@@ -186,6 +185,9 @@ def main(seconds, folder, names):
     (folder / "record-of-answers").write_bytes(header + test_record.FRAMES + test_record.ENTRIES * 2)
     for name in names or WHAT:
         program = build(name, folder)
+        if name == "answers":
+            (folder / "module-reader").write_text('#!/bin/sh\nexec cat "$SHB_ANSWERS"\n')
+            (folder / "module-reader").chmod(0o755)
         subprocess.run([program, f"-max_total_time={seconds}", f"-max_len={LONGEST[name]}", "-timeout=300",
                         "-print_final_stats=1", "-verbosity=1",
                         f"{name}-inputs"], cwd=folder, stdin=subprocess.DEVNULL)

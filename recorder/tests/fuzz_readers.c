@@ -1,6 +1,6 @@
 /* libFuzzer's side of fuzz.py: each input is given to shb-std as a record, or as what the reader of a module answers, or to that reader as
-   a module, in a process of its own, for both are written to run once.  What the process counted of the ways that it went is added to the
-   counts here. */
+   a module, in a process of its own, for both are written to run once.  These are forked by a process that was itself forked before libFuzzer had
+   tables: to copy those takes longer than most runs.  What a process counted of the ways that it went is added to the counts here. */
 #define _GNU_SOURCE
 #include <fcntl.h>
 #include <signal.h>
@@ -9,6 +9,7 @@
 #include <stdlib.h>
 #include <string.h>
 #include <sys/mman.h>
+#include <sys/socket.h>
 #include <sys/wait.h>
 #include <unistd.h>
 #include "../record.h"
@@ -20,10 +21,12 @@ enum { SECONDS = 120, LONGEST = 1 << 16 };
 int command(int count, char **words);  /* main of the command that is tried */
 extern uint8_t __start___sancov_cntrs, __stop___sancov_cntrs;
 void __sanitizer_cov_8bit_counters_init(uint8_t *start, uint8_t *stop);      /* linkers drop clang's own call of it */
-static uint8_t *counted;               /* shared with the process */
+static uint8_t *counted, *shared;      /* shared with the process: what it counted, and the input */
+static int forker;                     /* gets the size of the input, gives the status of the process */
 static char folder[] = "/tmp/shb-fuzz-XXXXXX", races[64], finer_races[64], page[64], stacks[64], input[64], package[64], said[64];
 static int file, words_file;
 
+static void start_forker(void);
 static size_t count_bytes(void) { return &__stop___sancov_cntrs - &__start___sancov_cntrs; }
 
 /* Each way out of the command comes by here: what libFuzzer would do at an end isn't done. */
@@ -34,7 +37,8 @@ static void end_process(void) {
 }
 
 int LLVMFuzzerInitialize(int *count, char ***words) {
-    counted = mmap(0, count_bytes(), PROT_READ | PROT_WRITE, MAP_SHARED | MAP_ANONYMOUS, -1, 0);
+    counted = mmap(0, count_bytes() + LONGEST, PROT_READ | PROT_WRITE, MAP_SHARED | MAP_ANONYMOUS, -1, 0);
+    shared = counted + count_bytes();
     if (counted == MAP_FAILED || !mkdtemp(folder)) abort();
     snprintf(races, sizeof races, "%s/races", folder);
     snprintf(page, sizeof page, "%s/page", folder);
@@ -51,6 +55,7 @@ int LLVMFuzzerInitialize(int *count, char ***words) {
     file = openat(AT_FDCWD, input, O_RDWR | O_CREAT | O_TRUNC, 0600);
     words_file = openat(AT_FDCWD, said, O_RDWR | O_CREAT | O_TRUNC | O_APPEND, 0600);
     if (file < 0 || words_file < 0) abort();
+    start_forker();
     __sanitizer_cov_8bit_counters_init(&__start___sancov_cntrs, &__stop___sancov_cntrs);
     return 0;
 }
@@ -140,6 +145,8 @@ static int prepare(const uint8_t *data, size_t size, char **words) {
 #endif
 
 #ifdef FUZZ_TEXTS
+static void start_forker(void) {}
+
 int LLVMFuzzerTestOneInput(const uint8_t *data, size_t size) {
     if (size) read_text(data, size);
     return 0;
@@ -168,15 +175,37 @@ static void report(int status) {
     abort();
 }
 
+/* Forks a process for each size that comes, until libFuzzer ends. */
+static void serve(int requests) {
+    size_t size;
+    while (read(requests, &size, sizeof size) == sizeof size) {
+        memset(&__start___sancov_cntrs, 0, count_bytes());
+        int status = 0;
+        pid_t process = fork();
+        if (!process) run(shared, size);
+        while (process > 0 && waitpid(process, &status, 0) < 0) ;
+        if (write(requests, &status, sizeof status) < 0) break;
+    }
+    _exit(0);
+}
+
+static void start_forker(void) {
+    int ends[2];
+    if (socketpair(AF_UNIX, SOCK_STREAM | SOCK_CLOEXEC, 0, ends)) abort();
+    pid_t process = fork();
+    if (process < 0) abort();
+    close(ends[process > 0]);
+    if (!process) serve(ends[1]);
+    forker = ends[0];
+}
+
 int LLVMFuzzerTestOneInput(const uint8_t *data, size_t size) {
     if (!size || size > LONGEST) return 0;
     int status = 0;
     if (ftruncate(file, 0) || ftruncate(words_file, 0)) abort();
+    memcpy(shared, data, size);
     memset(counted, 0, count_bytes());
-    pid_t process = fork();
-    if (process < 0) return 0;
-    if (!process) run(data, size);
-    while (waitpid(process, &status, 0) < 0) ;
+    if (write(forker, &size, sizeof size) != sizeof size || read(forker, &status, sizeof status) != sizeof status) abort();
     if (status) report(status);
     uint8_t *own = &__start___sancov_cntrs;
     for (size_t k = 0; k < count_bytes(); k++) own[k] = counted[k] > own[k] ? counted[k] : own[k];
