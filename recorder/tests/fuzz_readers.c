@@ -2,6 +2,7 @@
    a module, in a process of its own, for both are written to run once.  These are forked by a process that was itself forked before libFuzzer had
    tables: to copy those takes longer than most runs.  What a process counted of the ways that it went is added to the counts here. */
 #define _GNU_SOURCE
+#include <errno.h>
 #include <fcntl.h>
 #include <signal.h>
 #include <stdint.h>
@@ -205,7 +206,10 @@ int LLVMFuzzerTestOneInput(const uint8_t *data, size_t size) {
     if (ftruncate(file, 0) || ftruncate(words_file, 0)) abort();
     memcpy(shared, data, size);
     memset(counted, 0, count_bytes());
-    if (write(forker, &size, sizeof size) != sizeof size || read(forker, &status, sizeof status) != sizeof status) abort();
+    if (write(forker, &size, sizeof size) != sizeof size) abort();
+    ssize_t got;
+    while ((got = read(forker, &status, sizeof status)) < 0 && errno == EINTR) ;      /* libFuzzer has an alarm now and then */
+    if (got != sizeof status) abort();
     if (status) report(status);
     uint8_t *own = &__start___sancov_cntrs;
     for (size_t k = 0; k < count_bytes(); k++) own[k] = counted[k] > own[k] ? counted[k] : own[k];
