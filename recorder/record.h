@@ -107,3 +107,8 @@ enum operation {
     OP_LATE,
     OPERATIONS
 };
+
+static inline int is_plain(enum operation operation) { return operation == OP_READ || operation == OP_WRITE; }
+static inline int is_atomic(enum operation operation) {
+    return operation >= OP_ATOMIC_LOAD && operation <= OP_ATOMIC_UPDATE;
+}

@@ -1,6 +1,4 @@
 /* Accesses of memory: which blocks and pieces they use, and their events. */
-#include <stdio.h>
-#include <string.h>
 #include "converter.h"
 
 int whole_trace;

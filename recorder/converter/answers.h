@@ -3,7 +3,6 @@
    A request is its kind, and how many numbers follow. The reader takes all of it before it answers, so
    neither waits for the other. An answer is rows up to an END_ROW: two numbers, the lengths of two texts,
    then the texts. shb-std takes no other. */
-#include <stdint.h>
 
 enum request_kind {
     /* of a page: of each symbol in it, in order, where it begins, its size and SYMBOL_ flags; its name */

@@ -13,8 +13,6 @@
    written plainly may be a bundle. If it has races of bundles, a finer trace follows, in which their pieces
    are apart, and if others have races then, that of all pieces. Each has at most an event for each access of
    a piece. */
-#define _GNU_SOURCE
-#include <string.h>
 #include "converter.h"
 
 int is_coarse;

@@ -1,7 +1,7 @@
 /* What the parts of the converter share. */
-#include <stdio.h>
-#include "../record.h"
+#pragma once
 #include "tables.h"
+#include "../record.h"
 #include "threads.h"
 
 /* What shb takes of a trace, as python/shb_common/limits.py has it. */
@@ -58,10 +58,6 @@ void meet_start(const entry *e);
 u32 thread_bound(void);                /* all threads are below it */
 u32 next_thread(u32 t);                /* the one after it, of those that there may be */
 u32 other_thread_of(const entry *e);   /* of a fork or join */
-static inline int is_plain(enum operation operation) { return operation == OP_READ || operation == OP_WRITE; }
-static inline int is_atomic(enum operation operation) {
-    return operation >= OP_ATOMIC_LOAD && operation <= OP_ATOMIC_UPDATE;
-}
 int acquires(const entry *e), releases(const entry *e);      /* of an atomic access or a fence */
 int is_exchange(const entry *e);
 u64 accessed_bytes(const entry *e);

@@ -1,7 +1,4 @@
 /* The events of the trace, and the names in them. */
-#define _GNU_SOURCE
-#include <stdio.h>
-#include <string.h>
 #include "converter.h"
 
 limits most = LIMITS_OF_SHB;

@@ -1,7 +1,5 @@
 /* What lies in blocks of the heap: names by the type that the allocation tells, or else by what accesses tell
    of objects in them. They are written when all events are. */
-#include <stdlib.h>
-#include <string.h>
 #include "converter.h"
 
 enum { MOST_OWN = 4, MOST_OBJECTS = 32 };

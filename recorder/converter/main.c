@@ -4,16 +4,10 @@
    cuts the others into pieces; the second cuts by what came before another thread used a block; the third
    finds which pieces and objects are shared, and who reads what; the fourth writes the events.  With --only
    and races in its file another one writes those that a page of these needs, and counts. */
-#define _GNU_SOURCE
-#include <errno.h>
-#include <fcntl.h>
+#include "converter.h"
 #include <getopt.h>
 #include <malloc.h>
-#include <stdio.h>
-#include <stdlib.h>
-#include <string.h>
 #include <unistd.h>
-#include "converter.h"
 
 #define MAX_EXTRA_STEPS (1ull << 28)   /* in a pass: seconds */
 

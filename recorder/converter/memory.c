@@ -8,8 +8,6 @@
    In the third pass there are no new cuts.  Then a page has a slot for each of its cuts, which has the number
    of the piece that begins there now; a new block empties its slots.  The cuts of 64 bytes stand beside their
    first slot, so a piece is found by one look at each of the page, these, the slot and the piece. */
-#include <stdlib.h>
-#include <string.h>
 #include "converter.h"
 
 enum { PAGE = 4096, GRAIN = 16, MAX_PAGES = 1 << 24 };

@@ -1,8 +1,4 @@
 /* Names of variables, functions and lines of code, by what the readers of modules tell. */
-#define _GNU_SOURCE
-#include <stdio.h>
-#include <stdlib.h>
-#include <string.h>
 #include "readers.h"
 
 enum { MAX_MODULES = 512 };

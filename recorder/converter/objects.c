@@ -1,8 +1,4 @@
 /* Objects: locks, and all whose order is told by locks. */
-#define _GNU_SOURCE
-#include <stdio.h>
-#include <stdlib.h>
-#include <string.h>
 #include "converter.h"
 
 /* Who gave a version, or NOBODY, and up to which one the giver had taken them. */

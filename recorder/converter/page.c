@@ -29,10 +29,6 @@
            its last release
        sets                         of locks were more than the recorder tells apart
        events COUNT-IN-PAGE         at the end */
-#define _GNU_SOURCE
-#include <errno.h>
-#include <stdlib.h>
-#include <string.h>
 #include "converter.h"
 
 #define USES_BEGIN "shb-uses 3\n"

@@ -1,18 +1,13 @@
 /* The readers of modules: a process for each module that is asked of, with limits of its own, for a module
    may be any file. What one answers is checked here; one that ends, or answers what can't be, is asked no
    more. */
-#define _GNU_SOURCE
-#include <errno.h>
-#include <fcntl.h>
+#include "readers.h"
 #include <signal.h>
 #include <spawn.h>
-#include <stdlib.h>
-#include <string.h>
 #include <sys/socket.h>
 #include <sys/wait.h>
 #include <time.h>
 #include <unistd.h>
-#include "readers.h"
 
 enum { MOST_SECONDS = 360 };           /* of processor time, of all readers */
 #define MOST_TAKEN (1ull << 31)        /* bytes of all answers of all readers */

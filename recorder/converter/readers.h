@@ -1,6 +1,6 @@
 /* What shb-std knows of modules: each has a reader, a process that answers (reader/). */
-#include "answers.h"
 #include "converter.h"
+#include "answers.h"
 
 struct reader;
 /* its texts stand until the next one */

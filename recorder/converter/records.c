@@ -1,12 +1,4 @@
 /* The record as it stands in the file, and what each of its entries accesses. */
-#define _GNU_SOURCE
-#include <errno.h>
-#include <fcntl.h>
-#include <stdio.h>
-#include <stdlib.h>
-#include <string.h>
-#include <sys/mman.h>
-#include <sys/stat.h>
 #include "converter.h"
 
 enum { MAX_FREED = 1024 };

@@ -1,11 +1,8 @@
 /* Names of source files: the shortest end of a file's path that no other file's path ends in; at most the
    path from the folder that all files of the program have in common. Or, if one was named, the path from
    there (--strip). */
-#include <ctype.h>
-#include <stdio.h>
-#include <stdlib.h>
-#include <string.h>
 #include "converter.h"
+#include <ctype.h>
 
 static const char *stripped;
 /* as by normal_path, each once; when they are named, sorted by their ends */

@@ -38,10 +38,6 @@
        line LOCATION TAB SUM
            of the text that a frame's line has now, without the blanks at its ends: 16 hexadecimal digits. Not
            where the file can't be read */
-#define _GNU_SOURCE
-#include <stdio.h>
-#include <stdlib.h>
-#include <string.h>
 #include "converter.h"
 
 #define STACKS_BEGIN "shb-stacks 1 %020lu\n"

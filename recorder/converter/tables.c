@@ -1,16 +1,8 @@
 /* Arrays that grow, maps, and lines of source files. */
-#define _GNU_SOURCE
-#include <errno.h>
-#include <fcntl.h>
-#include <stdarg.h>
-#include <stdio.h>
-#include <stdlib.h>
-#include <string.h>
-#include <sys/mman.h>
-#include <sys/random.h>
-#include <sys/stat.h>
-#include <unistd.h>
 #include "tables.h"
+#include <stdarg.h>
+#include <sys/random.h>
+#include <unistd.h>
 
 static const u64 prime = (1ull << 61) - 1;
 

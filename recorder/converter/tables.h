@@ -1,6 +1,15 @@
-/* What shb-std and the reader of modules share. */
-#include <stddef.h>
+/* What shb-std and the reader of modules share, with the headers that most need. Each file includes it first,
+   or what includes it first. */
+#pragma once
+#define _GNU_SOURCE
+#include <errno.h>
+#include <fcntl.h>
 #include <stdint.h>
+#include <stdio.h>
+#include <stdlib.h>
+#include <string.h>
+#include <sys/mman.h>
+#include <sys/stat.h>
 
 typedef uint64_t u64;
 typedef uint32_t u32;

@@ -1,9 +1,6 @@
 /* The type of what a call in the program's own code allocates, by the text of its line: one `new NAME`, or
    one `sizeof(NAME)`, where a type of that name and size is in the unit. Debug information doesn't tell
    it. */
-#include <stdio.h>
-#include <stdlib.h>
-#include <string.h>
 #include "debug.h"
 
 int read_line(const char *path, int number, char *line) {

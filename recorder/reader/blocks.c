@@ -1,8 +1,5 @@
 /* Names of what lies in blocks of the heap: in what the C++ library allocates by the function that does so,
    for what it gives has a type; in others by the line. */
-#include <stdio.h>
-#include <stdlib.h>
-#include <string.h>
 #include "debug.h"
 
 /* The type of the first argument of a template; 0 where there is none. */

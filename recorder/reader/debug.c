@@ -1,12 +1,7 @@
 /* Modules, as libdw reads them: the code of their functions, lines, and what is inlined. */
-#define _GNU_SOURCE
-#include <fcntl.h>
-#include <stdio.h>
-#include <stdlib.h>
-#include <string.h>
-#include <unistd.h>
-#include <elfutils/libdwelf.h>
 #include "debug.h"
+#include <elfutils/libdwelf.h>
+#include <unistd.h>
 
 /* ---- what isn't read ---- */
 static Elf_Scn *section_of(Elf *elf, const char *name) {

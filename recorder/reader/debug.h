@@ -1,11 +1,11 @@
 /* Debug information of a module, and its symbols, as libdw of the elfutils reads them. Addresses are those of
    the module's file. */
+#include "../converter/tables.h"
+#include "../converter/answers.h"
 #include <ctype.h>
 #include <dwarf.h>
 #include <elfutils/libdw.h>
 #include <elfutils/libdwfl.h>
-#include "../converter/tables.h"
-#include "../converter/answers.h"
 
 enum { MOST_STEPS = 64, MOST_DIMENSIONS = 8 };
 

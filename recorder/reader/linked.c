@@ -1,9 +1,5 @@
 /* What shb-record asks of a module: of what kind it is, or what it exports and calls. Each row is two texts,
    what is told and a name; a byte 0 ends each, so a name may have any other. */
-#define _GNU_SOURCE
-#include <stdio.h>
-#include <stdlib.h>
-#include <string.h>
 #include "debug.h"
 
 static void tell(const char *what, const char *name) { printf("%s%c%s%c", what, 0, name, 0); }

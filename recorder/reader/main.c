@@ -6,18 +6,11 @@
    A module may be any file, made to take memory or time without end, or to break libdw. So this is a process
    of its own for each module, with limits of both; it opens regular files alone, and what it answers is
    checked by who asks. */
-#define _GNU_SOURCE
-#include <errno.h>
-#include <fcntl.h>
+#include "debug.h"
 #include <signal.h>
-#include <stdio.h>
-#include <stdlib.h>
-#include <string.h>
 #include <sys/prctl.h>
 #include <sys/resource.h>
-#include <sys/stat.h>
 #include <unistd.h>
-#include "debug.h"
 
 /* of processor time; of memory so many times the module's size, and this: */
 enum { SECONDS = 120, TIMES = 16 };

@@ -1,8 +1,5 @@
 /* Members of a program's variables, by its debug information: "queue+8" is "queue.head" (what isn't told
    stays a number of bytes), and locals of its functions. */
-#include <stdio.h>
-#include <stdlib.h>
-#include <string.h>
 #include "debug.h"
 
 /* ---- variables ---- */

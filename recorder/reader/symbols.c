@@ -1,8 +1,6 @@
 /* A module's symbols, and what their names are in the program's source. */
-#include <dlfcn.h>
-#include <stdlib.h>
-#include <string.h>
 #include "debug.h"
+#include <dlfcn.h>
 
 /* A copy, also of a name that isn't mangled; it is so where the C++ library isn't on the machine. */
 char *demangled(const char *name) {

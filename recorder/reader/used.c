@@ -1,9 +1,6 @@
 /* The type of an object in a block by its uses: the source text at an access's column, as `j->done`, is a
    member of what a pointer points to, whose type the debug information tells. So an object of that type lies
    there, if it has the member's bytes at the access. What isn't certain by text and types has no meaning. */
-#include <stdio.h>
-#include <stdlib.h>
-#include <string.h>
 #include "debug.h"
 
 enum { WORD = 128, MOST_ENTRIES = 1 << 16 };

@@ -68,10 +68,6 @@ static inline int has_depth(uint64_t what) {
 static inline int is_same(cell_use one, cell_use other) {
     return one.what == other.what && one.from == other.from;
 }
-static inline int is_plain(enum operation operation) { return operation == OP_READ || operation == OP_WRITE; }
-static inline int is_atomic(enum operation operation) {
-    return operation >= OP_ATOMIC_LOAD && operation <= OP_ATOMIC_UPDATE;
-}
 static inline int only_reads(enum operation operation) {
     return operation == OP_READ || operation == OP_ATOMIC_LOAD;
 }
