@@ -253,7 +253,7 @@ static u64 piece_event(const entry *e, const use *u, u32 number, const char *ope
     else if (writer == NOBODY) event_number = access_event(u->thread, operation, number, caller, u->own);
     else {
         part name = variable_name(p->at, block_of(p->block));
-        int length = snprintf(text, sizeof text, "%.*s!%s", (int)name.length, name.at, thread_name(writer));
+        int length = snprintf(text, sizeof text, "%.*s!%s", TEXT(name), thread_name(writer));
         event_number = event(u->thread, operation, (part){text, length}, caller);
     }
     if (is_kept) note_sight(u->thread, u->own, number, writer, *operation == 'w');

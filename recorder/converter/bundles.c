@@ -91,7 +91,7 @@ static void begin_phase(bundle *b, u32 writer) {
 }
 
 void forget_phases(void) {
-    EACH(b, bundles.at, bundles.count) begin_phase(b, 0);
+    EACH(b, bundles) begin_phase(b, 0);
 }
 
 u32 bundle_of(u32 number) { return is_coarse ? use_of_piece(number)->sum : 0; }
@@ -139,14 +139,14 @@ void use_bundle(u32 number, u32 t, int writes, u64 caller) {
 
 void end_region(u32 t) {
     thread_state *s = &threads[t];
-    EACH(k, s->pending.at, s->pending.count) write_last_use(&users.at[*k - 1]);
+    EACH(k, s->pending) write_last_use(&users.at[*k - 1]);
     s->pending.count = s->region = 0;
 }
 
 /* ---- refinement ---- */
 void refine(const map *names) {
     char text[NAME_BYTES + 1];
-    EACH(b, bundles.at, bundles.count) {
+    EACH(b, bundles) {
         const piece *p = piece_of(b->piece);
         part name = variable_name(p->at, block_of(p->block));
         *(char *)mempcpy(text, name.at, name.length) = '~';

@@ -13,6 +13,7 @@ typedef struct { u64 events, bytes; u32 threads; const char *before_thread; } li
 #define LIMITS_OF_LIST \
     ((limits){4294967294, -1, 65535, "before a thread too many: shb places --list takes 65,535"})
 typedef struct { const char *at; u64 length; } part;         /* of a text, without an end of its own */
+#define TEXT(part) (int)(part).length, (part).at             /* for "%.*s" */
 
 /* The last line of a help text, after an empty one, and what --version says: what is installed. The
    installation defines it. */

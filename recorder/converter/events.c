@@ -68,7 +68,7 @@ static int write_block_name(char *to, u64 address, const block *b) {
     if (b->stack) return sprintf(to, "stack.%s-0x%lx", thread_name(b->thread), b->at + b->size - address);
     part place = place_of(b->caller);
     block_of(block_number(b))->named = 1;
-    int length = sprintf(to, "%.*s#%u", (int)place.length, place.at, block_number(b));
+    int length = sprintf(to, "%.*s#%u", TEXT(place), block_number(b));
     return address == b->at ? length : length + sprintf(to + length, "+%lu", address - b->at);
 }
 

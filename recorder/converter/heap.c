@@ -164,14 +164,14 @@ static int by_type(const void *a, const void *b) {
 static void find_names(void) {
     char name[NAME_BYTES];
     const u64 count = in_blocks.numbers.count;
-    EACH(i, in_blocks.at, count) {
+    EACH_OF(i, in_blocks.at, count) {
         const block *b = block_of(i->block);
         i->type_length = name_in_block(allocated_by(i->block), b->size, i->at - b->at, i->length, name,
                                        &i->is_other);
         if (i->type_length) i->name = copied(name);
         else ask_own(i);
     }
-    EACH(i, in_blocks.at, count)
+    EACH_OF(i, in_blocks.at, count)
         if (!i->type_length && (i->type_length = name_by_uses(i, name))) i->name = copied(name);
     if (count) qsort(in_blocks.at, count, sizeof *in_blocks.at, by_type);
 }
@@ -191,11 +191,11 @@ static void write_names_of_type(FILE *to, const in_block *first, const in_block 
         if (is_double) continue;
         const block *b = block_of(i->block);
         part variable = variable_name(i->at, b);
-        if (i->is_other) fprintf(to, "type %.*s\tother\n", (int)variable.length, variable.at);
-        fprintf(to, "local 0\t%.*s\t%.*s", (int)variable.length, variable.at, own_length(i->name), i->name);
+        if (i->is_other) fprintf(to, "type %.*s\tother\n", TEXT(variable));
+        fprintf(to, "local 0\t%.*s\t%.*s", TEXT(variable), own_length(i->name), i->name);
         if (with_block) {
             part origin = variable_name(b->at, b);
-            fprintf(to, " of %.*s", (int)origin.length, origin.at);
+            fprintf(to, " of %.*s", TEXT(origin));
         }
         fputc('\n', to);
     }

@@ -101,7 +101,7 @@ void end_block(u64 address, u64 caller) {
 /* Only those of the thread that is always there. */
 void write_blocks(const char *path) {
     FILE *file = fopen(path, "w");
-    EACH(b, blocks.at, file ? blocks.count : 0) {
+    EACH_OF(b, blocks.at, file ? blocks.count : 0) {
         const struct record r[] = {{b->at, b->caller | (u64)OP_ALLOC << 48 | (u64)SIZE_FOLLOWS << 54},
                                    {b->size, (u64)OP_SIZE << 48}};
         if (!b->stack && !b->freed && block_at(b->at) == b) fwrite(r, sizeof r, 1, file);
@@ -125,7 +125,7 @@ block *block_of(u32 number) { return number ? &blocks.at[number - 1] : 0; }
 
 void begin_memory_pass(void) {
     met = extra_steps = 0;
-    EACH(p, pages.at, pages.numbers.count) {
+    EACH_OF(p, pages.at, pages.numbers.count) {
         p->whole = 0;
         if (p->grains) memset(p->grains, 0, PAGE / GRAIN * sizeof *p->grains);
     }

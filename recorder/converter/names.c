@@ -364,7 +364,7 @@ void note_caller_of(const entry *e) {
 static u64 *addresses_in(module *m, u64 *count) {
     u64 *found = zeroed(places.numbers.count + 1, sizeof *found);
     *count = 0;
-    EACH(p, places.at, places.numbers.count)                 /* the call, not where it returns to */
+    EACH_OF(p, places.at, places.numbers.count)                 /* the call, not where it returns to */
         if (p->caller && module_at(p->caller) == m) found[(*count)++] = p->caller - m->base - 1;
     qsort(found, *count, sizeof *found, by_number);
     return found;
@@ -520,7 +520,7 @@ static int is_own_frame(const inlined_frame *f) { return f->line && !f->in_syste
 
 /* Also what calls one of them, and what another module than the program's own calls. */
 static void find_doing(void) {
-    EACH(p, places.at, places.numbers.count)
+    EACH_OF(p, places.at, places.numbers.count)
         if (p->does_more) add_doing(p->frames);
     for (u64 before = -1; before != doing.count;) {
         before = doing.count;
@@ -563,14 +563,14 @@ static void find_place(place *p) {
 
 /* The places of all callers whose module was asked, or that are in none. */
 static void find_asked_places(void) {
-    EACH(p, places.at, places.numbers.count) {
+    EACH_OF(p, places.at, places.numbers.count) {
         const module *m = p->text ? 0 : module_at(p->caller);
         if (!p->text && (!m || m->asked)) find_place(p);
     }
 }
 
 static int has_callers(const module *m) {
-    EACH(p, places.at, places.numbers.count)
+    EACH_OF(p, places.at, places.numbers.count)
         if (p->caller && module_at(p->caller) == m) return 1;
     return 0;
 }

@@ -182,7 +182,7 @@ static void take_versions(const note *n, u32 t, handing hand, u64 caller) {
 }
 
 static void take_noted(u32 t, handing hand, u64 caller) {
-    EACH(n, threads[t].notes.at, threads[t].notes.count) take_versions(n, t, hand, caller);
+    EACH(n, threads[t].notes) take_versions(n, t, hand, caller);
     threads[t].notes.count = 0;
 }
 
@@ -253,7 +253,7 @@ static void add_post(object *o, u32 t) {
     s->gave = ++o->version;
     *PUSH(o->posts) = (post){o->version, t, s->last};
     if (o->posts.count < 2 * o->posters + FEW) return;
-    EACH(p, o->posts.at, o->posts.count)
+    EACH(p, o->posts)
         if (is_last_post(o, p)) o->posts.at[kept++] = *p;
     o->posts.count = o->posters = kept;
 }
@@ -361,7 +361,7 @@ void share_object(const entry *e) {
 
 void forget_states(void) {
     acquires_met = holds.count = free_hold = 0;
-    EACH(o, objects.at, objects.numbers.count) {
+    EACH_OF(o, objects.at, objects.numbers.count) {
         o->depth = o->holder = o->version = o->head = o->arrivals = o->writer = o->posters = 0;
         o->begun = o->gifts = o->first_gift = o->last_gift = 0;
         o->given.count = o->posts.count = o->readers.count = 0;
@@ -515,8 +515,8 @@ void each_held(held_lock give, const char *operation) {
     for (u32 t = 0; t < thread_bound(); t = next_thread(t))
         for (const hold *h = first_hold(t); h; h = hold_behind(h))
             if (h->acquire) *PUSH(all) = (held){h->acquire, h, t};
-    if (all.count) qsort(all.at, all.count, sizeof *all.at, by_number);
-    EACH(it, all.at, all.count) give(operation, it->thread, it->hold);
+    SORT(all, by_number);
+    EACH(it, all) give(operation, it->thread, it->hold);
 }
 
 /* Does an operation order threads? */
@@ -608,7 +608,7 @@ static void atomic_events(const entry *e, object *o) {
 
 static void write_lock_events(object *o, u32 t, u64 caller) {
     pass_lock(o, t, of_version(o->version), caller);
-    EACH(reader, o->readers.at, o->readers.count) pass_lock(o, t, by_thread(o->version, *reader), caller);
+    EACH(reader, o->readers) pass_lock(o, t, by_thread(o->version, *reader), caller);
     o->readers.count = 0;
     o->holder = t + 1;
 }

@@ -73,8 +73,8 @@ static void add_race(u64 first, u64 second, char *variable) {
    One of a single access doesn't. */
 static void join_spans(u64 run_events) {
     u64 count = 0;
-    qsort(page.spans.at, page.spans.count, sizeof *page.spans.at, by_number);
-    EACH(s, page.spans.at, page.spans.count) {
+    SORT(page.spans, by_number);
+    EACH(s, page.spans) {
         u64 from_begin = s->first < s->last ? SHORT_RUN : BEFORE;
         span next = {s->first > from_begin ? s->first - BEFORE : 1, s->last + BEHIND};
         span *before = count ? &page.spans.at[count - 1] : 0;
@@ -112,7 +112,7 @@ int read_races(const char *path) {
 int begin_page(u64 run_events) {
     if (!page.spans.count) return 0;
     join_spans(run_events);
-    qsort(wanted.at, wanted.count, sizeof *wanted.at, by_number);
+    SORT(wanted, by_number);
     into = &page;
     return 1;
 }
@@ -248,9 +248,9 @@ static void write_sight(const sight *s) {
     part name = variable_name(p->at, block_of(p->block)), written = place_of(s->written),
         read = place_of(s->read);
     int is_atomic = s->writer != NOBODY;
-    fprintf(uses_file, "seen\t%.*s%s%s\t%.*s\t%.*s\n", (int)name.length, name.at, is_atomic ? "!" : "",
+    fprintf(uses_file, "seen\t%.*s%s%s\t%.*s\t%.*s\n", TEXT(name), is_atomic ? "!" : "",
             is_atomic ? thread_name(s->writer) : "",
-            (int)written.length, written.at, (int)read.length, read.at);
+            TEXT(written), TEXT(read));
 }
 
 static void write_sum(const sum *s) {
@@ -268,9 +268,9 @@ static void write_sum(const sum *s) {
 static void write_use(const use *u) {
     const piece *p = piece_of(u->piece);
     part name = variable_name(p->at, block_of(p->block)), place = place_of(u->own);
-    fprintf(uses_file, "use\t%c\t%.*s\t", u->word, (int)name.length, name.at);
+    fprintf(uses_file, "use\t%c\t%.*s\t", u->word, TEXT(name));
     write_own_name(uses_file, u->local);
-    fprintf(uses_file, "\t%.*s", (int)place.length, place.at);
+    fprintf(uses_file, "\t%.*s", TEXT(place));
     for (u32 k = u->first; k; k = sums.at[k - 1].next) write_sum(&sums.at[k - 1]);
     fputc('\n', uses_file);
 }
@@ -283,8 +283,8 @@ void open_uses(const char *path) {
 
 void end_uses(void) {
     if (!uses_file) return;
-    EACH(u, uses.at, uses.numbers.count) write_use(u);
-    EACH(s, sights.at, sights.numbers.count) write_sight(s);
+    EACH_OF(u, uses.at, uses.numbers.count) write_use(u);
+    EACH_OF(s, sights.at, sights.numbers.count) write_sight(s);
     if (!are_sets_apart()) fputs("sets\n", uses_file);
     fprintf(uses_file, "events\t%lu\n", written);
     if (fflush(uses_file) || ferror(uses_file) || fclose(uses_file)) cannot_write(uses_path);

@@ -101,7 +101,7 @@ const char *source_name(const char *path) {
     if (!*normal) return path;
     if (stripped && !strncmp(normal, stripped, strip) && normal[strip] == '/') return normal + strip + 1;
     if (sorted_count != sources.count) {
-        qsort(sources.at, sources.count, sizeof *sources.at, by_end);
+        SORT(sources, by_end);
         find_common_folder();
         sorted_count = sources.count;
     }

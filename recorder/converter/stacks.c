@@ -90,7 +90,7 @@ static INTERNED(named) named_places;
 static void write_local(u64 event, named *n, const char *name) {
     n->name = name;
     part variable = variable_name(n->at, block_of(n->block));
-    fprintf(lines, "local %lu\t%.*s\t", event, (int)variable.length, variable.at);
+    fprintf(lines, "local %lu\t%.*s\t", event, TEXT(variable));
     write_own_name(lines, name);
     fputc('\n', lines);
 }
@@ -98,7 +98,7 @@ static void write_local(u64 event, named *n, const char *name) {
 /* The thread has left functions since its last record, nobody knows when: what others accessed in them
    meanwhile has no name. */
 static void leave_functions(thread_calls *s) {
-    EACH(f, s->foreign.at, s->foreign.count)
+    EACH(f, s->foreign)
         if (f->depth >= s->depth || f->depth >= s->lowest)
             write_local(f->event, &named_places.at[f->number - 1], "");
     s->foreign.count = 0;
@@ -346,8 +346,8 @@ static void note_own_name(u64 at) {
     if (!map_adds(&met, at, 0)) return;
     part name = variable_name(at, 0);
     int length = own_length(name.at);
-    if (name.at[length]) fprintf(lines, "local 0\t%.*s\t%.*s\n", (int)name.length, name.at, length, name.at);
-    if (is_of_other_type(at)) fprintf(lines, "type %.*s\tother\n", (int)name.length, name.at);
+    if (name.at[length]) fprintf(lines, "local 0\t%.*s\t%.*s\n", TEXT(name), length, name.at);
+    if (is_of_other_type(at)) fprintf(lines, "type %.*s\tother\n", TEXT(name));
 }
 
 void note_name(u64 at, u32 block_number, u64 event, u32 t) {
@@ -405,8 +405,8 @@ void note_use(const entry *e, u64 object, int gives) {
     const block *b = block_at(e->address);
     note_name(e->address, block_number(b), written + 1, t);
     part name = variable_name(e->address, b), place = place_of(own_place(t, e->caller));
-    fprintf(lines, "use %lu\t%.*s\t%s\t%.*s\t%s %s%s\n", written + 1, (int)name.length, name.at,
-            thread_name(t), (int)place.length, place.at,
+    fprintf(lines, "use %lu\t%.*s\t%s\t%.*s\t%s %s%s\n", written + 1, TEXT(name),
+            thread_name(t), TEXT(place),
             is_load ? "load" : is_store ? "store" : is_exchange(e) ? "exchange" : "update",
             orders[acquires(e) + 2 * (!is_load && gives)],
             is_repeated(e) ? " again" : "");
@@ -416,7 +416,7 @@ void note_fence(const entry *e) {
     if (!with_stacks || !notes_uses()) return;
     part place = place_of(own_place(e->thread, e->caller));
     fprintf(lines, "use %lu\t\t%s\t%.*s\tfence acquire\n", written + 1, thread_name(e->thread),
-            (int)place.length, place.at);
+            TEXT(place));
 }
 
 void note_free(u64 first, u64 last) {
@@ -427,7 +427,7 @@ void note_again(u32 t, const block *b, const block *earlier) {
     if (!with_stacks || !earlier->freed || !is_own_place(earlier->freed_from)) return;
     part place = place_of(earlier->freed_from);
     fprintf(lines, "again %u\t%lu\t%s\t%.*s\n", block_number(b), written + 1, thread_name(t),
-            (int)place.length, place.at);
+            TEXT(place));
 }
 
 /* ---- the tables ---- */
@@ -531,7 +531,7 @@ void say_crash(void) {
     fprintf(stderr, "shb-std: the program crashed: SIG%s", word ? word : "?");
     if (crash.has_address) fprintf(stderr, " at address 0x%lx", crash.address);
     fprintf(stderr, " in thread %s", thread_name(crash.thread));
-    if (!crash.node) fprintf(stderr, ": %.*s", (int)place_of(crash.caller).length, place_of(crash.caller).at);
+    if (!crash.node) fprintf(stderr, ": %.*s", TEXT(place_of(crash.caller)));
     int said = 0;
     shown_call call;
     for (u32 k = crash.node; k && said < MOST_SAID; k = call.outer) {

@@ -42,9 +42,12 @@ void *grown(void *array, u64 count, u64 *capacity, size_t size);
         else its_end = k; \
     } \
     its_low; })
-/* For each entry of an array, which may be null if it has none. */
-#define EACH(item, array, count) \
+/* For each entry of an array, which may be null if it has none; of one that grows. */
+#define EACH_OF(item, array, count) \
     for (__typeof__(array) item = (array); item && item < (array) + (count); item++)
+#define EACH(item, vector) EACH_OF(item, (vector).at, (vector).count)
+#define SORT(vector, order) \
+    ({ if ((vector).count) qsort((vector).at, (vector).count, sizeof *(vector).at, order); })
 /* An array with an entry for each key of two words. INTERN returns its number, from 1, ENTRY its address; a
    new one is zeros. */
 #define INTERNED(type) struct { map numbers; type *at; u64 capacity; }

@@ -44,7 +44,7 @@ static int lacks_type(Dwarf_Die *e, unsigned attribute) {
 
 /* As 0.188 in split files. */
 static int lacks_types(struct debug *d) {
-    EACH(u, d->units.at, d->units.count) {
+    EACH(u, d->units) {
         Dwarf_Die e;
         if (u->whole.addr == u->linked.addr) continue;
         EACH_CHILD(&e, &u->whole)
@@ -66,7 +66,7 @@ static const char *why_in_part(struct debug *d) {
     Elf *elf = dwarf_getelf(d->dwarf);
     int has_shared = dwarf_getalt(d->dwarf) != 0;
     functions f = {0};
-    EACH(u, d->units.at, d->units.count) each_entry(&u->whole, note_functions, &f);
+    EACH(u, d->units) each_entry(&u->whole, note_functions, &f);
     if (!has_shared && has_section(elf, ".debug_sup"))
         return "is in part in a file that this version of libdw doesn't read (dwz --dwarf-5)";
     if (d->is_alien || (!has_shared && has_section(elf, ".gnu_debugaltlink")))
@@ -178,7 +178,7 @@ static int note_function(void *to, Dwarf_Die *e) {
 static void index_functions(unit *u) {
     if (u->is_indexed++) return;
     each_entry(&u->whole, note_function, u);
-    if (u->functions.count) qsort(u->functions.at, u->functions.count, sizeof *u->functions.at, by_number);
+    SORT(u->functions, by_number);
 }
 
 /* Does a unit whose split file isn't found name an object file for it? */
@@ -210,9 +210,9 @@ void read_units(struct debug *d) {
         if (d->spans.count > before) continue;
         unit *u = &d->units.at[number];          /* it doesn't tell where its code is */
         index_functions(u);
-        EACH(f, u->functions.at, u->functions.count) *PUSH(d->spans) = (span){f->low, f->high, number};
+        EACH(f, u->functions) *PUSH(d->spans) = (span){f->low, f->high, number};
     }
-    if (d->spans.count) qsort(d->spans.at, d->spans.count, sizeof *d->spans.at, by_number);
+    SORT(d->spans, by_number);
 }
 
 static unit *unit_with(struct debug *d, u64 pc) {
@@ -390,10 +390,10 @@ void each_source(struct debug *d, void (*give)(const char *path)) {
     if (!tables || !tables->d_buf) return;
     void *whole = tables->d_buf;
     tables->d_buf = memcpy(zeroed(1, tables->d_size), whole, tables->d_size);
-    EACH(u, d->units.at, d->units.count)
+    EACH(u, d->units)
         if (has_number(&u->linked, DW_AT_stmt_list, &at)) drop_program(tables, at);
     Dwarf *names = dwarf_begin_elf(elf, DWARF_C_READ, 0);
-    EACH(u, d->units.at, d->units.count) give_sources(u, names, &given, give);
+    EACH(u, d->units) give_sources(u, names, &given, give);
     dwarf_end(names);
     free(tables->d_buf);
     tables->d_buf = whole;

@@ -64,7 +64,7 @@ static void tell_compiled(struct debug *d) {
     static const char *const others[] = {"GNU AS", "GNU GIMPLE", 0};
     static const char *const own[] = {"libsanitizer/", "libgcc/", 0};
     read_units(d);
-    EACH(u, d->units.at, d->units.count) {
+    EACH(u, d->units) {
         Dwarf_Attribute a;
         const char *by = dwarf_formstring(dwarf_attr(&u->whole, DW_AT_producer, &a));
         const char *name = dwarf_formstring(dwarf_attr(&u->whole, DW_AT_name, &a));

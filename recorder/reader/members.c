@@ -35,7 +35,7 @@ Dwarf_Die *variable_at(struct debug *d, u64 address) {
     for (int many = 1; !(number = map_find(&d->variables.numbers, address, 0)) && many <= 2; many++) {
         if (d->has_variables >= many) continue;
         d->has_variables = many;
-        EACH(u, d->units.at, d->units.count) each_entry(&u->whole, note_variable, d);
+        EACH(u, d->units) each_entry(&u->whole, note_variable, d);
     }
     return number ? &d->variables.at[number - 1] : 0;
 }

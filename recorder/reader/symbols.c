@@ -61,7 +61,7 @@ static void read_symbols(struct debug *d) {
     if (d->has_symbols++) return;
     int count = d->file ? dwfl_module_getsymtab(d->file) : 0;
     for (int k = 1; k < count; k++) take_symbol(d, k);
-    if (d->symbols.count) qsort(d->symbols.at, d->symbols.count, sizeof *d->symbols.at, by_address);
+    SORT(d->symbols, by_address);
     /* at what is of two the second is found, so the first ends there */
     for (u64 k = 1; k < d->symbols.count; k++) {
         symbol *before = &d->symbols.at[k - 1];
@@ -81,7 +81,7 @@ static const char *name_of(struct debug *d, symbol *s) {
 static void name_variables(struct debug *d) {
     if (d->has_names++) return;
     symbol **first = zeroed(d->symbols.count + 1, sizeof *first);
-    EACH(s, d->symbols.at, d->symbols.count) {
+    EACH(s, d->symbols) {
         if (s->is_function) continue;
         symbol **known = &first[map_text(&d->names, name_of(d, s)) - 1];
         if (!*known) *known = s;
