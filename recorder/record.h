@@ -51,15 +51,15 @@
 #define ATOMIC_SIZE_BITS 5
 #define IS_EXCHANGE (8 << ATOMIC_SIZE_BITS)
 
-struct record {
+typedef struct {
     /* 48 bits: the address (of a fork or join: the other thread); 16: the thread */
     uint64_t where;
     /* 48 bits: the return address of the call; 6: the operation; 10: the size */
     uint64_t what;
-};
+} record;
 
 /* A piece of a name, and an end; what is after the name is zeros. */
-static inline void piece_of_name(struct record r, char piece[NAME_PIECE + 1]) {
+static inline void piece_of_name(record r, char piece[NAME_PIECE + 1]) {
     for (int k = 0; k < NAME_PIECE / 2; k++) {
         piece[k] = r.where >> 8 * k;
         piece[k + NAME_PIECE / 2] = r.what >> 8 * k;
@@ -68,7 +68,7 @@ static inline void piece_of_name(struct record r, char piece[NAME_PIECE + 1]) {
 }
 
 /* The sum of the entry with this number, from 0. */
-static inline uint64_t entry_sum(uint64_t number, struct record r) {
+static inline uint64_t entry_sum(uint64_t number, record r) {
     return (r.where ^ number << 20) * 0x9E3779B97F4A7C15u + (r.what ^ number) * 0xD6E8FEB86659FD93u;
 }
 

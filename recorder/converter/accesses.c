@@ -49,7 +49,7 @@ static void cut_access(const entry *e, u64 end) {
 static int is_shared_block(const block *b) { return !b || b->users == SEVERAL; }
 
 static u32 find_blocks(const entry *e, u64 end) {
-    const u32 number = number_at(e->address);
+    u32 number = number_at(e->address);
     block *first = block_of(number);
     use_block(first, e, 0);
     for (u64 at = end_of_same(e->address, end); at < end; at = end_of_same(at, end)) {
@@ -62,7 +62,7 @@ static u32 find_blocks(const entry *e, u64 end) {
 }
 
 void find_users(const entry *e) {
-    const u64 end = end_of(e);
+    u64 end = end_of(e);
     if (!known) known = zeroed(record_count, sizeof *known);
     known[e->number] = (known_record){end == e->address ? 0 : find_blocks(e, end), means_more(e)};
 }
@@ -139,7 +139,7 @@ static RARE u64 kept_runs(u64 from) {
     enum { RECENT = 4096 };
     static u64 recent[RECENT];
     u64 *last = &recent[runs.at[from].first % RECENT];
-    const u64 bytes = (runs.count - from) * sizeof *runs.at;
+    u64 bytes = (runs.count - from) * sizeof *runs.at;
     if (*last < from && !memcmp(&runs.at[*last], &runs.at[from], bytes)) runs.count = from;
     else *last = from;
     return *last;
@@ -147,8 +147,8 @@ static RARE u64 kept_runs(u64 from) {
 
 /* Those of an access, as known_record has them. */
 static u32 share_all(const entry *e, const use *u) {
-    const u32 in_region = u->reads || u->writes ? use_in_region(u->thread, u->writes) : APART;
-    const u64 from = runs.count, end = end_of(e);
+    u32 in_region = u->reads || u->writes ? use_in_region(u->thread, u->writes) : APART;
+    u64 from = runs.count, end = end_of(e);
     for (u64 at = e->address; at < end;) {
         u32 count, first = neighbours_at(&at, end, &count);
         share_run(e, u, in_region, first, count);
@@ -162,7 +162,7 @@ static u32 share_all(const entry *e, const use *u) {
 static const run *runs_of(u32 found) { return &runs.at[found - MOST_PIECES - 1]; }
 
 void share_pieces(const entry *e) {
-    const int may_be_unseen = is_plain(e->operation) || e->operation == OP_FREE;
+    int may_be_unseen = is_plain(e->operation) || e->operation == OP_FREE;
     known_record *k = &known[e->number];
     if (k->accessed && may_be_unseen && is_unseen(e->caller)) k->accessed = 0;
     if (!k->accessed) return;
@@ -289,7 +289,7 @@ static inline void piece_events(const entry *e, const use *u, u32 number, read_e
 }
 
 static char word_of(const entry *e, const use *u) {
-    const int is_wide = accessed_bytes(e) > 8;
+    int is_wide = accessed_bytes(e) > 8;
     if (e->operation == OP_FREE) return 'f';
     if (is_atomic(e->operation)) return u->writes_atomically ? 'a' : 'l';
     return u->writes ? is_wide ? 'W' : 'w' : is_wide ? 'R' : 'r';
@@ -347,7 +347,7 @@ void access_events(const entry *e) {
     use u = use_of(e);
     if (found <= MOST_PIECES) use_variable(e, &u, found);
     else for (const run *r = runs_of(found); r; r = r->is_last ? 0 : r + 1) {
-        const u32 count = in_one_bundle(r->first, r->count) ? 1 : r->count;
+        u32 count = in_one_bundle(r->first, r->count) ? 1 : r->count;
         for (u32 k = 0; k < count && !cut_reason; k++) use_variable(e, &u, r->first + k);
     }
 }

@@ -42,7 +42,7 @@ u32 use_in_region(u32 t, int writes) {
 }
 
 void note_history(piece_use *p, u32 in_region) {
-    const int is_same = (p->last | WRITES) == (in_region | WRITES);
+    int is_same = (p->last | WRITES) == (in_region | WRITES);
     if (p->last == APART || (is_same && p->last >= in_region)) return;
     p->sum = mix(p->sum, in_region);
     p->last = in_region;
@@ -69,7 +69,7 @@ int form_bundles(void) {
     u64 uses = 0, of_bundles = 0;
     for (u32 number = 1; number <= piece_count(); number++) {
         piece_use *u = use_of_piece(number);
-        const int is_in_trace = u->users == SEVERAL && u->written;
+        int is_in_trace = u->users == SEVERAL && u->written;
         u->sum = is_in_trace && u->last != APART ? join_bundle(number, u->sum) : 0;
         uses += is_in_trace ? u->uses : 0;
     }
@@ -132,7 +132,7 @@ static RARE void use_anew(u32 number, u32 t, int writes, u64 caller) {
 /* Most uses are like those before. */
 void use_bundle(u32 number, u32 t, int writes, u64 caller) {
     const bundle *b = &bundles.at[number - 1];
-    const int is_in_phase = b->thread == t + 1 && (b->writer == t + 1 || !(b->writer || writes));
+    int is_in_phase = b->thread == t + 1 && (b->writer == t + 1 || !(b->writer || writes));
     const user *u = is_in_phase ? &users.at[b->user - 1] : 0;
     if (!u || b->phase != u->phase || !u->is_pending) use_anew(number, t, writes, caller);
 }
@@ -153,7 +153,7 @@ void refine(const map *names) {
         b->is_apart |= map_find_bytes(names, text, name.length + 1) != 0;
     }
     for (u32 number = 1; number <= piece_count(); number++) {
-        const u32 found = bundle_of(number);
+        u32 found = bundle_of(number);
         if (found && bundles.at[found - 1].is_apart) use_of_piece(number)->sum = 0;
     }
 }

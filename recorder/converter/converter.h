@@ -28,7 +28,7 @@ typedef struct { const char *at; u64 length; } part;         /* of a text, witho
 /* records.c: the record. */
 /* A record as a pass meets it. */
 typedef struct {
-    const struct record *its;          /* in the file: an entry or two */
+    const record *its;          /* in the file: an entry or two */
     u64 number;                        /* in the order of the passes */
     u64 address, caller;
     u32 thread;
@@ -51,7 +51,7 @@ u64 size_of(const entry *e);
 static inline u64 late_context(const entry *e) { return e->its[-1].what % IS_REPEATED; }
 static inline int is_repeated(const entry *e) { return e->is_late && e->its[-1].where & IS_REPEATED; }
 void forget_before(u64 i);           /* the entries of the file */
-u64 depth_inside(const struct record *r);          /* MOST_FRAMES where it is told by records before */
+u64 depth_inside(const record *r);          /* MOST_FRAMES where it is told by records before */
 void begin_thread_pass(void);
 /* each pass calls these for each fork and begin; 0 where there are too many threads */
 int meet_fork(const entry *e);
@@ -64,16 +64,16 @@ int is_exchange(const entry *e);
 u64 accessed_bytes(const entry *e);
 
 /* late.c: the entries of a record with each access in its place that is late. */
-static inline enum operation operation_in(struct record r) { return r.what >> 48 & 63; }
-static inline int is_late(struct record r) { return operation_in(r) == OP_LATE; }
-static inline int is_of_two(struct record r) { return is_late(r) || r.what >> 54 == SIZE_FOLLOWS; }
-int is_good_late(u64 position, struct record access, u64 i); /* of an entry OP_LATE, and the one after it */
+static inline enum operation operation_in(record r) { return r.what >> 48 & 63; }
+static inline int is_late(record r) { return operation_in(r) == OP_LATE; }
+static inline int is_of_two(record r) { return is_late(r) || r.what >> 54 == SIZE_FOLLOWS; }
+int is_good_late(u64 position, record access, u64 i); /* of an entry OP_LATE, and the one after it */
 /* of each entry OP_LATE, before the order is asked for */
 void note_late(u64 i, u64 position, u64 most_entries);
 /* Writes the numbers of all entries but these in the order of what happened, with IS_LATE those of accesses
    that are late, and returns how many they are. */
 #define IS_LATE (1u << 31)
-u64 put_in_order(const struct record *entries, u64 count, u32 *order);
+u64 put_in_order(const record *entries, u64 count, u32 *order);
 
 /* sources.c: the source files of modules, and how they are named. */
 void strip_folder(const char *folder); /* names of files below it are paths from it */

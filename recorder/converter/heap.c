@@ -121,8 +121,8 @@ static int is_larger(const access *a, const access *best) {
    several types. */
 static int find_larger(const in_block *i, access *best, char *name) {
     const block *b = block_of(i->block);
-    const int is_told = best->object != 0;
-    const u64 offset = i->at - b->at;
+    int is_told = best->object != 0;
+    u64 offset = i->at - b->at;
     for (u32 k = objects_of(i->block)->last; k; k = objects.at[k - 1].before) {
         object o = objects.at[k - 1];
         char other[NAME_BYTES];
@@ -146,7 +146,7 @@ static size_t name_by_uses(in_block *i, char *name) {
     for (u32 k = best.object ? i->own.last : 0; k; k = accesses.at[k - 1].before)
         if (accesses.at[k - 1].object && !are_together(&accesses.at[k - 1], &best)) return 0;
     if (best.object) best.name = strcpy(name, best.name);
-    const int is_found = find_larger(i, &best, name);
+    int is_found = find_larger(i, &best, name);
     i->is_other = is_found && best.is_other;
     return is_found ? best.type_length : 0;
 }
@@ -163,7 +163,7 @@ static int by_type(const void *a, const void *b) {
 
 static void find_names(void) {
     char name[NAME_BYTES];
-    const u64 count = in_blocks.numbers.count;
+    u64 count = in_blocks.numbers.count;
     EACH_OF(i, in_blocks.at, count) {
         const block *b = block_of(i->block);
         i->type_length = name_in_block(allocated_by(i->block), b->size, i->at - b->at, i->length, name,

@@ -109,7 +109,7 @@ static inline __attribute__((always_inline)) void pass(void (*step)(const entry 
         if (i == end) end = next_records(i);
         if (!is_first && is_passed_over(i)) continue;
         const entry e = entry_at(i);
-        const enum operation operation = e.operation;
+        enum operation operation = e.operation;
         block *b = 0, *earlier = 0;
         if (!is_plain(operation)) {
             if (operation == OP_SIZE) continue;

@@ -102,7 +102,7 @@ void end_block(u64 address, u64 caller) {
 void write_blocks(const char *path) {
     FILE *file = fopen(path, "w");
     EACH_OF(b, blocks.at, file ? blocks.count : 0) {
-        const struct record r[] = {{b->at, b->caller | (u64)OP_ALLOC << 48 | (u64)SIZE_FOLLOWS << 54},
+        const record r[] = {{b->at, b->caller | (u64)OP_ALLOC << 48 | (u64)SIZE_FOLLOWS << 54},
                                    {b->size, (u64)OP_SIZE << 48}};
         if (!b->stack && !b->freed && block_at(b->at) == b) fwrite(r, sizeof r, 1, file);
     }
@@ -136,7 +136,7 @@ block *meet_block(const entry *e) {
     u64 end = (e->address + size + GRAIN - 1) & ~(GRAIN - 1ull);
     if (!size || size >= MAX_BLOCK) return 0;
     if (++met > blocks.count) {        /* in the first pass */
-        const int is_stack = e->operation == OP_START;
+        int is_stack = e->operation == OP_START;
         *PUSH(blocks) = (block){e->address, size, e->caller, .stack = is_stack,
                                 .users = cuts_all ? SEVERAL : 0, .thread = e->thread};
         cut(from, end);

@@ -9,7 +9,7 @@ typedef struct {
     u64 low, high, base;
     char *path;
     int in_system, is_recorder;        /* by its path */
-    struct reader *reader;             /* null until it is asked */
+    reader *reader;             /* null until it is asked */
     INTERNED(page_symbols) pages;      /* of its file, those of which symbols were asked for */
     INTERNED(member) members;          /* of an address and a length in a variable */
     /* of its lines; they are asked for when they are shown; what isn't read */
@@ -45,7 +45,7 @@ static char *cleaned(char *text) {        /* what would end a field or a line */
     return text;
 }
 
-static struct reader *reader_of(module *m) {
+static reader *reader_of(module *m) {
     return m->reader ? m->reader : (m->reader = open_reader(m->path));
 }
 
@@ -93,7 +93,7 @@ static void ask_symbols(module *m, u64 page, page_symbols *to) {
 }
 
 static symbol *symbol_at(module *m, u64 address) {
-    const u64 page = (address - m->base) & -(u64)SYMBOL_PAGE;
+    u64 page = (address - m->base) & -(u64)SYMBOL_PAGE;
     page_symbols *p = ENTRY(m->pages, page, 0);
     if (!p->is_asked++) ask_symbols(m, page, p);
     u64 begun = COUNT_BEFORE(k, p->symbols.count, p->symbols.at[k].at - m->base <= address - m->base);
@@ -263,7 +263,7 @@ int own_length(const char *name) {
 }
 
 void write_own_name(FILE *to, const char *name) {
-    const int length = own_length(name);
+    int length = own_length(name);
     const char *of = strstr(name + length, " of ");
     fprintf(to, "%.*s%s", length, name, of ? of : "");
 }
@@ -281,7 +281,7 @@ int is_variable(const char *name, size_t length) {
 
 /* The name that an answer has: returns the length of its type's. */
 static size_t take_name(const answer *part, char name[NAME_BYTES], uint8_t *is_other) {
-    const u32 length = part->one;
+    u32 length = part->one;
     if (length > strlen(part->first) || strlen(part->first) >= NAME_BYTES) return 0;
     cleaned(strcpy(name, part->first));
     *is_other = part->one >> 32 == 1;
@@ -356,7 +356,7 @@ static u32 caller_number(u64 caller) {
 void note_caller(u64 caller) { caller_number(caller); }
 
 void note_caller_of(const entry *e) {
-    const int does_more = e->operation < OP_START || e->operation > OP_FREE;
+    int does_more = e->operation < OP_START || e->operation > OP_FREE;
     place_at(caller_number(e->caller))->does_more |= does_more;
 }
 
@@ -541,7 +541,7 @@ static void find_place(place *p) {
     inlined_frame *chosen = 0;
     int rank = 0;
     for (inlined_frame *f = p->frames; f; f = f->outer) {
-        const int own_rank = is_own_frame(f) ? 3 - hands_on(f) : f->line != 0;
+        int own_rank = is_own_frame(f) ? 3 - hands_on(f) : f->line != 0;
         f->location = f->line ? location_of(f->path, f->line) : address_place(p->caller);
         if (is_own_frame(f)) name_lambda(f);
         if (own_rank > rank) chosen = f;

@@ -159,8 +159,8 @@ static void note_versions(object *o, u32 t, u32 from, u32 to) {
 /* The gift of a version before the store that began the value is one that goes on. */
 static void note_gifts(object *o, u32 t) {
     sight *s = sight_of(o, t);
-    const u32 last = s->noted > s->last ? s->noted : s->last, from = last > o->begun ? last : o->begun;
-    const u32 first = o->gifts ? sight_at(o->first_gift)->gift : 0;
+    u32 last = s->noted > s->last ? s->noted : s->last, from = last > o->begun ? last : o->begun;
+    u32 first = o->gifts ? sight_at(o->first_gift)->gift : 0;
     if (first <= o->begun && first > last) note_versions(o, t, first - 1, first);
     if (from < o->version) note_versions(o, t, from, o->version);
     s->noted = o->version;
@@ -386,7 +386,7 @@ part lock_name(u32 number) { return locks.at[number - 1]; }
 static u32 lock_of(object *o, which w, u32 t) {
     enum { TAIL_BYTES = THREAD_BYTES + 40 };
     char text[NAME_BYTES + TAIL_BYTES];
-    const u64 thread = w.sign == 'r' ? t : w.thread;
+    u64 thread = w.sign == 'r' ? t : w.thread;
     if (!w.sign && o->lock) return o->lock;
     u32 number = INTERN(locks, index_of(o) << 8 | w.sign, thread << 32 | w.version);
     if (!w.sign) o->lock = number;

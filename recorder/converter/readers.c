@@ -15,7 +15,7 @@ enum { MOST_SECONDS = 360 };           /* of processor time, of all readers */
 #define MOST_HELD (sysconf(_SC_PHYS_PAGES) / 2 * sysconf(_SC_PAGESIZE))
 
 struct reader {
-    struct reader *next;
+    reader *next;
     const char *path;
     pid_t process;
     double seconds;                    /* of processor time that are counted */
@@ -24,7 +24,7 @@ struct reader {
     char first[MOST_TEXT + 1], second[MOST_TEXT + 1];
 };
 
-static struct reader *readers;
+static reader *readers;
 
 /* The program beside this one. */
 static const char *program(void) {
@@ -36,7 +36,7 @@ static const char *program(void) {
     return path;
 }
 
-static int spawn(struct reader *r, int socket) {
+static int spawn(reader *r, int socket) {
     const char *const words[] = {program(), r->path, 0};
     posix_spawn_file_actions_t files;
     if (posix_spawn_file_actions_init(&files)) die("out of memory");
@@ -50,7 +50,7 @@ static int spawn(struct reader *r, int socket) {
 }
 
 /* Returns how it ended. One that has ended by itself isn't touched by the signal. */
-static int stop(struct reader *r) {
+static int stop(reader *r) {
     int status = 0;
     fclose(r->answers);
     r->answers = 0;
@@ -61,16 +61,16 @@ static int stop(struct reader *r) {
 
 /* None outlives this process. */
 static void stop_all(void) {
-    for (struct reader *r = readers; r; r = r->next)
+    for (reader *r = readers; r; r = r->next)
         if (r->answers) stop(r);
 }
 
 /* A file that is there twice, as a library that was loaded again, has one. None asks a server for
    debug information. */
-struct reader *open_reader(const char *path) {
-    for (struct reader *r = readers; r; r = r->next)
+reader *open_reader(const char *path) {
+    for (reader *r = readers; r; r = r->next)
         if (!strcmp(r->path, path)) return r;
-    struct reader *r = zeroed(1, sizeof *r);
+    reader *r = zeroed(1, sizeof *r);
     int ends[2];
     if (!readers) {
         atexit(stop_all);
@@ -92,7 +92,7 @@ struct reader *open_reader(const char *path) {
 static const char wrong_answer[] = "its reader gave a wrong answer";
 
 /* A status of 127 is the loader's, where a library is missing. */
-static const char *why_ended(const struct reader *r, int status) {
+static const char *why_ended(const reader *r, int status) {
     enum { NOT_THERE = 127 };
     if (!r->process || (WIFEXITED(status) && WEXITSTATUS(status) == NOT_THERE)) return 0;
     if (WIFEXITED(status)) return UNREAD "it takes too much memory";
@@ -101,7 +101,7 @@ static const char *why_ended(const struct reader *r, int status) {
 }
 
 /* It is ended for a reason, or ended by itself. */
-static void end_reader(struct reader *r, const char *why) {
+static void end_reader(reader *r, const char *why) {
     static int is_said;
     if (!r->answers) return;
     int status = stop(r);
@@ -113,7 +113,7 @@ static void end_reader(struct reader *r, const char *why) {
 }
 
 /* Have all readers together taken no more time than they may? */
-static int is_in_time(struct reader *r) {
+static int is_in_time(reader *r) {
     static double all;
     clockid_t clock;
     struct timespec taken;
@@ -125,7 +125,7 @@ static int is_in_time(struct reader *r) {
 }
 
 /* Bytes of memory that no file has. */
-static u64 held_by(const struct reader *r) {
+static u64 held_by(const reader *r) {
     char text[128];
     u64 part, all = 0;
     snprintf(text, sizeof text, "/proc/%d/status", r->process);
@@ -139,14 +139,14 @@ static u64 held_by(const struct reader *r) {
 
 /* Before another reader is asked: ends the one that holds most where all hold too much. Only the one that was
    asked last has grown. */
-static void limit_memory(struct reader *r) {
-    static struct reader *last;
-    struct reader *most = r;
+static void limit_memory(reader *r) {
+    static reader *last;
+    reader *most = r;
     u64 all = 0;
     if (r == last) return;
     if (last) last->held = held_by(last);
     last = r;
-    for (struct reader *it = readers; it; it = it->next) {
+    for (reader *it = readers; it; it = it->next) {
         if (!it->answers) continue;
         all += it->held;
         if (it->held > most->held) most = it;
@@ -154,18 +154,18 @@ static void limit_memory(struct reader *r) {
     if (all > (u64)MOST_HELD) end_reader(most, UNREAD "all modules together take too much memory");
 }
 
-void ask(struct reader *r, enum request_kind kind, const u64 *numbers, u64 count) {
+void ask(reader *r, enum request_kind kind, const u64 *numbers, u64 count) {
     const request head = {kind, count};
-    const size_t bytes = count * sizeof *numbers;
+    size_t bytes = count * sizeof *numbers;
     if (r->answers) limit_memory(r);
     if (!r->answers) return;
-    const int socket = fileno(r->answers);
+    int socket = fileno(r->answers);
     if (!is_in_time(r)) end_reader(r, UNREAD "all modules together take too much time");
     else if (send(socket, &head, sizeof head, MSG_NOSIGNAL) != sizeof head
              || send(socket, numbers, bytes, MSG_NOSIGNAL) != (ssize_t)bytes) end_reader(r, 0);
 }
 
-static int take(struct reader *r, void *to, size_t count) {
+static int take(reader *r, void *to, size_t count) {
     static u64 taken;
     if ((taken += count) > MOST_TAKEN) {
         end_reader(r, wrong_answer);
@@ -177,13 +177,13 @@ static int take(struct reader *r, void *to, size_t count) {
 }
 
 /* A text has no byte 0 inside. */
-static int take_text(struct reader *r, char *to, u32 length) {
+static int take_text(reader *r, char *to, u32 length) {
     if (length > MOST_TEXT || !take(r, to, length) || memchr(to, 0, length)) return 0;
     to[length] = 0;
     return 1;
 }
 
-int next_answer(struct reader *r, answer *to) {
+int next_answer(reader *r, answer *to) {
     row head;
     if (!r->answers || !take(r, &head, sizeof head) || head.first == END_ROW) return 0;
     if (!take_text(r, r->first, head.first) || !take_text(r, r->second, head.second)) {
@@ -194,9 +194,9 @@ int next_answer(struct reader *r, answer *to) {
     return 1;
 }
 
-void refuse_answer(struct reader *r) { end_reader(r, wrong_answer); }
+void refuse_answer(reader *r) { end_reader(r, wrong_answer); }
 
-int ask_one(struct reader *r, enum request_kind kind, const u64 *numbers, u64 count, answer *to) {
+int ask_one(reader *r, enum request_kind kind, const u64 *numbers, u64 count, answer *to) {
     row end;
     ask(r, kind, numbers, count);
     if (!next_answer(r, to)) return 0;

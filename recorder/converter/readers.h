@@ -2,14 +2,14 @@
 #include "converter.h"
 #include "answers.h"
 
-struct reader;
+typedef struct reader reader;
 /* its texts stand until the next one */
 typedef struct { u64 one, two; const char *first, *second; } answer;
-struct reader *open_reader(const char *path);                /* of a module */
-void ask(struct reader *r, enum request_kind kind, const u64 *numbers, u64 count);
+reader *open_reader(const char *path);                /* of a module */
+void ask(reader *r, enum request_kind kind, const u64 *numbers, u64 count);
 /* 0: there is no more; it has to be asked for until then */
-int next_answer(struct reader *r, answer *to);
+int next_answer(reader *r, answer *to);
 /* where there is one, or none */
-int ask_one(struct reader *r, enum request_kind kind, const u64 *numbers, u64 count, answer *to);
+int ask_one(reader *r, enum request_kind kind, const u64 *numbers, u64 count, answer *to);
 /* it can't be: nothing more is taken from there */
-void refuse_answer(struct reader *r);
+void refuse_answer(reader *r);

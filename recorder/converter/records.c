@@ -7,7 +7,7 @@ static const char *record_path;
 u64 record_count;
 
 /* ---- the records in the order of the passes ---- */
-static const struct record *entries, *carried, *from;        /* of the file; of the segment before; now */
+static const record *entries, *carried, *from;        /* of the file; of the segment before; now */
 static u32 *order;                     /* as by put_in_order, behind those that are carried */
 u64 entry_count;
 static u64 carried_count;
@@ -85,10 +85,10 @@ void forget_thread_states(void) {
 
 u32 threads_met(void) { return thread_count > own_numbers ? thread_count : own_numbers; }
 
-static int size_follows(const struct record *r) { return r->what >> 54 == SIZE_FOLLOWS; }
-static int is_access(const struct record *r) { return is_plain(operation_in(*r)); }
+static int size_follows(const record *r) { return r->what >> 54 == SIZE_FOLLOWS; }
+static int is_access(const record *r) { return is_plain(operation_in(*r)); }
 
-static u64 size_in(const struct record *r) {
+static u64 size_in(const record *r) {
     u64 inside = r->what >> 54;
     if (inside == SIZE_FOLLOWS) return r[1].where;
     if (!is_access(r)) return inside;
@@ -96,7 +96,7 @@ static u64 size_in(const struct record *r) {
 }
 
 inline entry entry_at(u64 i) {
-    const struct record *its = &from[order[i] & ~IS_LATE];
+    const record *its = &from[order[i] & ~IS_LATE];
     return (entry){.its = its, .number = i, .address = its->where & LOW_48_BITS,
                    .caller = its->what & LOW_48_BITS, .thread = with_number[its->where >> 48],
                    .operation = operation_in(*its), .is_late = order[i] / IS_LATE};
@@ -104,14 +104,14 @@ inline entry entry_at(u64 i) {
 
 inline u64 size_of(const entry *e) { return size_in(e->its); }
 
-u64 depth_inside(const struct record *r) {
-    const u64 inside = r->what >> 54;
+u64 depth_inside(const record *r) {
+    u64 inside = r->what >> 54;
     u64 depth = is_access(r) && !(inside & IS_RANGE) ? inside >> LOGARITHM_BITS : DEPTH_BEFORE;
     return depth == DEPTH_BEFORE ? MOST_FRAMES : depth;
 }
 
 /* ---- whether the entries are good ---- */
-static inline int is_good(const struct record *r) {
+static inline int is_good(const record *r) {
     enum operation operation = operation_in(*r);
     if (operation <= OP_SIZE || operation >= OP_LATE || r->where >> 48 >= THREAD_NUMBERS) return 0;
     if (size_follows(r) && (operation_in(r[1]) != OP_SIZE || size_follows(r + 1) || size_in(r) >= MAX_SIZE))
@@ -124,10 +124,10 @@ static inline int is_good(const struct record *r) {
 }
 
 /* The entry or the two at `r`, number i of `count`. Returns how many they are, or 0: they aren't whole. */
-static inline u64 check(const struct record *r, u64 i, u64 count) {
-    const u64 are_two = is_of_two(*r);
+static inline u64 check(const record *r, u64 i, u64 count) {
+    u64 are_two = is_of_two(*r);
     if (!r->what || (are_two && (i + 1 == count || !r[1].what))) return 0;
-    const struct record *its = r + is_late(*r);
+    const record *its = r + is_late(*r);
     if ((is_late(*r) && !is_good_late(r->where, *its, i)) || !is_good(its))
         die("record %lu of %s is damaged", i + 1, record_path);
     note_number(its->where >> 48);
@@ -191,7 +191,7 @@ void open_record(const char *path) {
     u64 size;
     char *file = map_file(path, &size);
     if (strncmp(file, RECORD_MAGIC, strlen(RECORD_MAGIC))) refuse(file, path);
-    entries = (struct record *)(file + HEADER_BYTES);
+    entries = (record *)(file + HEADER_BYTES);
     record_path = path;
     memcpy(header, file, HEADER_BYTES);
     note_how_it_ended(header + ENDED_AT);
@@ -205,7 +205,7 @@ void carry_blocks(const char *path) {
     FILE *file = fopen(path, "r");
     if (!file || fstat(fileno(file), &status)) die("cannot read %s: %s", path, strerror(errno));
     carried_count = status.st_size / sizeof *carried;
-    struct record *blocks = zeroed(carried_count, sizeof *blocks);
+    record *blocks = zeroed(carried_count, sizeof *blocks);
     if (fread(blocks, sizeof *blocks, carried_count, file) != carried_count) die("cannot read %s", path);
     fclose(file);
     for (u64 i = 0, more; i < carried_count; i += more)

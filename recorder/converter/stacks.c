@@ -114,7 +114,7 @@ static void count_functions(u64 count) {
 
 /* The functions of a context but for its innermost ones: at most so many are left. */
 static u32 outer_context(u32 number, u64 depth) {
-    const u64 before = contexts.at[number].depth;
+    u64 before = contexts.at[number].depth;
     if (before > depth) count_functions(before - depth);
     while (contexts.at[number].depth > depth) number = contexts.at[number].outer;
     return number;
@@ -212,7 +212,7 @@ static void meet_told(thread_calls *s, const entry *e) {
 static thread_calls *calls_of(u32 t) {
     thread_calls *s = &threads[t].calls;
     enter(s, s->now);
-    const u64 inside = s->length ? depth_inside(s->its) : 0;
+    u64 inside = s->length ? depth_inside(s->its) : 0;
     s->depth = inside < s->length ? inside : s->length;
     return s;
 }

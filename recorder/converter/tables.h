@@ -37,7 +37,7 @@ void *grown(void *array, u64 count, u64 *capacity, size_t size);
 #define COUNT_BEFORE(k, count, is_before) ({ \
     u64 its_low = 0, its_end = (count); \
     while (its_low < its_end) { \
-        const u64 k = its_low + (its_end - its_low) / 2; \
+        u64 k = its_low + (its_end - its_low) / 2; \
         if (is_before) its_low = k + 1; \
         else its_end = k; \
     } \

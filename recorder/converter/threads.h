@@ -24,7 +24,7 @@ typedef struct {
     /* its context by the records before; that of the present one; that of `calls`, with its depth */
     u32 told, now, in, length;
     u32 depth;                         /* of the present record: in so many functions of its context */
-    const struct record *its;          /* the present one */
+    const record *its;          /* the present one */
     u64 way, caller;                   /* of it */
     u64 end;                           /* of its stack */
     VECTOR(foreign) foreign;           /* since its last record */

@@ -67,7 +67,7 @@ static int look_at(void *to, Dwarf_Die *e) {
 /* Is the function one of a template? A name in it may be that of an argument. */
 static int is_of_template(const char *function) { return memchr(function, '<', strcspn(function, "(")) != 0; }
 
-int type_by_text(struct debug *d, u64 pc, u64 size, Dwarf_Die *type) {
+int type_by_text(debug *d, u64 pc, u64 size, Dwarf_Die *type) {
     debug_frame frames[MOST_INLINED];
     char line[LINE_BYTES], name[LINE_BYTES];
     Dwarf_Die unit;

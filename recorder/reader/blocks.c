@@ -38,7 +38,7 @@ static int is_type(int tag) {
 int add_qualified_name(const Dwarf_Die *of, text *to) {
     Dwarf_Die named = *of, scope, e;
     for (int steps = 0; steps < MOST_STEPS && origin_of(&named); steps++) {}
-    const int of_type = is_type(dwarf_tag(&named));
+    int of_type = is_type(dwarf_tag(&named));
     const char *before = "";
     if (!dwarf_diecu(&named, &scope, 0, 0)) return 0;
     for (int depth = 0; depth < MOST_STEPS; depth++) {
@@ -125,7 +125,7 @@ static elements elements_of(Dwarf_Die *type, u64 size) {
 }
 
 /* Is it for a vector of bits, which share words? A function of the library's own allocates them. */
-static int is_of_bits(struct debug *d, u64 pc) {
+static int is_of_bits(debug *d, u64 pc) {
     static const char own[] = "std::_Bvector_base<";
     debug_frame frames[MOST_INLINED];
     int count = frames_at(d, pc, frames, MOST_INLINED), found = 0;
@@ -137,7 +137,7 @@ static int is_of_bits(struct debug *d, u64 pc) {
 }
 
 /* The type of what a call allocates, if it is certain. Each is looked for once. */
-static const allocation *allocated_at(struct debug *d, const place_in_block *at) {
+static const allocation *allocated_at(debug *d, const place_in_block *at) {
     allocation *call = ENTRY(d->calls, at->pc, 0);
     Dwarf_Die function, type = {0};
     if (call->is_met) return call;
@@ -164,7 +164,7 @@ static named_part find_part(Dwarf_Die type, u64 offset, u64 length) {
 }
 
 /* The names of what lies so far inside a type. */
-static named_part part_of(struct debug *d, Dwarf_Die type, u64 offset, u64 length) {
+static named_part part_of(debug *d, Dwarf_Die type, u64 offset, u64 length) {
     named_part *part = ENTRY(d->parts, (u64)type.addr, offset << 32 | length);
     if (!part->is_met) *part = find_part(type, offset, length);
     return *part;
@@ -181,9 +181,9 @@ static size_t add_bits(const place_in_block *at, char *buffer, size_t size) {
     return strlen(type);
 }
 
-int has_type(struct debug *d, place_in_block at) { return allocated_at(d, &at)->type.addr != 0; }
+int has_type(debug *d, place_in_block at) { return allocated_at(d, &at)->type.addr != 0; }
 
-size_t add_in_block(struct debug *d, place_in_block at, char *buffer, size_t size, int *is_other) {
+size_t add_in_block(debug *d, place_in_block at, char *buffer, size_t size, int *is_other) {
     const allocation *call = allocated_at(d, &at);
     Dwarf_Die type = call->type;
     if (call->is_of_bits) return add_bits(&at, buffer, size);
@@ -200,7 +200,7 @@ size_t add_in_block(struct debug *d, place_in_block at, char *buffer, size_t siz
     return add_part(part, index, buffer, size);
 }
 
-size_t add_by_use(struct debug *d, object_in_block *object, u64 offset, u64 length, char *buffer,
+size_t add_by_use(debug *d, object_in_block *object, u64 offset, u64 length, char *buffer,
                   size_t size) {
     char index[24] = "";
     u64 begin = object->begin;

@@ -19,7 +19,7 @@ static Elf_Scn *section_of(Elf *elf, const char *name) {
 
 int has_section(Elf *elf, const char *name) { return section_of(elf, name) != 0; }
 
-Elf *own_file(struct debug *d) {
+Elf *own_file(debug *d) {
     GElf_Addr bias;
     return d->file ? dwfl_module_getelf(d->file, &bias) : 0;
 }
@@ -43,7 +43,7 @@ static int lacks_type(Dwarf_Die *e, unsigned attribute) {
 }
 
 /* As 0.188 in split files. */
-static int lacks_types(struct debug *d) {
+static int lacks_types(debug *d) {
     EACH(u, d->units) {
         Dwarf_Die e;
         if (u->whole.addr == u->linked.addr) continue;
@@ -53,7 +53,7 @@ static int lacks_types(struct debug *d) {
     return 0;
 }
 
-static int has_package(struct debug *d) {
+static int has_package(debug *d) {
     char path[MOST_TEXT];
     snprintf(path, sizeof path, "%s.dwp", d->path);
     return !access(path, F_OK);
@@ -62,7 +62,7 @@ static int has_package(struct debug *d) {
 static const char no_debug_information[] = "isn't there (no -g); lines are addresses too: compile with -g";
 
 /* Why a part of the debug information is missing: that of a file that has some, and of all that it names. */
-static const char *why_in_part(struct debug *d) {
+static const char *why_in_part(debug *d) {
     Elf *elf = dwarf_getelf(d->dwarf);
     int has_shared = dwarf_getalt(d->dwarf) != 0;
     functions f = {0};
@@ -83,7 +83,7 @@ static const char *why_in_part(struct debug *d) {
     return !f.has_code ? no_debug_information : f.has_types ? 0 : "has no types (-g1)";
 }
 
-const char *why_unread(struct debug *d) {
+const char *why_unread(debug *d) {
     Elf *elf = own_file(d);
     read_units(d);
     if (!elf) return 0;
@@ -107,12 +107,12 @@ static int is_of_other_build(Dwarf *dwarf) {
 }
 
 /* ---- modules ---- */
-struct debug *open_debug(const char *path) {
+debug *open_debug(const char *path) {
     static char *folders;              /* as the debuggers' */
     static const Dwfl_Callbacks callbacks = {.find_elf = dwfl_build_id_find_elf,
                                              .find_debuginfo = dwfl_standard_find_debuginfo,
                                              .debuginfo_path = &folders};
-    struct debug *d = zeroed(1, sizeof *d);
+    debug *d = zeroed(1, sizeof *d);
     d->path = path;
     int f = strchr(path, '/') ? open(path, O_RDONLY) : -1;
     if (f < 0) return d;
@@ -190,7 +190,7 @@ static int is_in_object(Dwarf_Die *unit) {
 }
 
 /* The debug information of a system's library may be large, and mostly isn't asked for. */
-void read_units(struct debug *d) {
+void read_units(debug *d) {
     if (d->has_units++) return;
     d->dwarf = d->file ? dwfl_module_getdwarf(d->file, &d->bias) : 0;
     if (!d->dwarf) return;
@@ -215,27 +215,27 @@ void read_units(struct debug *d) {
     SORT(d->spans, by_number);
 }
 
-static unit *unit_with(struct debug *d, u64 pc) {
+static unit *unit_with(debug *d, u64 pc) {
     read_units(d);
-    const u64 at = pc - d->bias, begun = COUNT_BEFORE(k, d->spans.count, d->spans.at[k].low <= at);
+    u64 at = pc - d->bias, begun = COUNT_BEFORE(k, d->spans.count, d->spans.at[k].low <= at);
     return begun && at < d->spans.at[begun - 1].high ? &d->units.at[d->spans.at[begun - 1].unit] : 0;
 }
 
-static unit *find_code(struct debug *d, u64 pc, Dwarf_Die *function) {
+static unit *find_code(debug *d, u64 pc, Dwarf_Die *function) {
     unit *u = unit_with(d, pc);
     *function = (Dwarf_Die){0};
     if (!u) return 0;
     index_functions(u);
-    const u64 at = pc - d->bias, begun = COUNT_BEFORE(k, u->functions.count, u->functions.at[k].low <= at);
+    u64 at = pc - d->bias, begun = COUNT_BEFORE(k, u->functions.count, u->functions.at[k].low <= at);
     if (begun && at < u->functions.at[begun - 1].high) *function = u->functions.at[begun - 1].at;
     return u;
 }
 
-int find_function(struct debug *d, u64 pc, Dwarf_Die *function) {
+int find_function(debug *d, u64 pc, Dwarf_Die *function) {
     return find_code(d, pc, function) && !d->is_alien && function->addr;
 }
 
-int find_unit(struct debug *d, u64 pc, Dwarf_Die *whole) {
+int find_unit(debug *d, u64 pc, Dwarf_Die *whole) {
     const unit *u = unit_with(d, pc);
     if (!u || d->is_alien) return 0;
     *whole = u->whole;
@@ -263,7 +263,7 @@ static int scopes_at(Dwarf_Die function, u64 at, Dwarf_Die *scopes, int most) {
     return count;
 }
 
-int find_innermost(struct debug *d, u64 pc, Dwarf_Die *function) {
+int find_innermost(debug *d, u64 pc, Dwarf_Die *function) {
     Dwarf_Die scopes[MOST_STEPS];
     if (!find_function(d, pc, function)) return 0;
     *function = scopes[scopes_at(*function, pc - d->bias, scopes, MOST_STEPS) - 1];
@@ -296,7 +296,7 @@ int has_number(Dwarf_Die *die, unsigned attribute, u64 *number) {
     return !dwarf_formudata(dwarf_attr(die, attribute, &a), number);
 }
 
-static int frames_by_lines(struct debug *d, u64 pc, debug_frame *frames, int most) {
+static int frames_by_lines(debug *d, u64 pc, debug_frame *frames, int most) {
     Dwarf_Die function, scopes[MOST_STEPS];
     unit *u = find_code(d, pc, &function);
     u64 at = pc - d->bias;
@@ -327,7 +327,7 @@ static int frames_by_lines(struct debug *d, u64 pc, debug_frame *frames, int mos
     return count;
 }
 
-int line_at(struct debug *d, u64 pc, const char **path, int *line, int *column) {
+int line_at(debug *d, u64 pc, const char **path, int *line, int *column) {
     unit *u = unit_with(d, pc);
     Dwarf_Line *found = u && !d->is_alien ? dwarf_getsrc_die(&u->linked, pc - d->bias) : 0;
     if (!found || dwarf_lineno(found, line) || dwarf_linecol(found, column)) return 0;
@@ -336,7 +336,7 @@ int line_at(struct debug *d, u64 pc, const char **path, int *line, int *column) 
 }
 
 /* The outermost function has the name that it is linked by, if that says what it is called. */
-int frames_at(struct debug *d, u64 pc, debug_frame *frames, int most) {
+int frames_at(debug *d, u64 pc, debug_frame *frames, int most) {
     int count = frames_by_lines(d, pc, frames, most);
     const symbol *s = symbol_from(d, pc);
     if (!s || s->at > pc || (count && !s->is_function)) return count;
@@ -357,9 +357,9 @@ static void drop_program(const Elf_Data *tables, u64 at) {
     char *table = (char *)tables->d_buf + at;
     memcpy(&length, table, LENGTH);
     memcpy(&version, table + LENGTH, sizeof version);
-    const u64 before = version < 5 ? 6 : 8;                  /* bytes before its header's length */
+    u64 before = version < 5 ? 6 : 8;                  /* bytes before its header's length */
     memcpy(&header, table + before, LENGTH);
-    const u64 left = before + header;  /* as many, behind its own length, as have the header */
+    u64 left = before + header;  /* as many, behind its own length, as have the header */
     if (version < 2 || version > 5 || length == ~0u || length > tables->d_size - at - LENGTH) return;
     if (left < length) memcpy(table, &(u32){left}, LENGTH);
 }
@@ -381,7 +381,7 @@ static void give_sources(unit *u, Dwarf *names, map *given, void (*give)(const c
 /* libdw 0.188 runs a unit's whole line program and sorts its lines also for who asks for its files alone
    (0.192 doesn't), and most units are asked for no line. So another handle of it reads a copy of the tables
    without programs. */
-void each_source(struct debug *d, void (*give)(const char *path)) {
+void each_source(debug *d, void (*give)(const char *path)) {
     map given = {0};                   /* most units have the same headers */
     u64 at;
     read_units(d);

@@ -60,7 +60,7 @@ static int has_any(const char *text, const char *const *parts) {
 
 /* Tells which source files gcc compiled with hooks and which without: it writes its flags behind its name.
    Others' aren't known, and gcc's own parts of a program aren't told. */
-static void tell_compiled(struct debug *d) {
+static void tell_compiled(debug *d) {
     static const char *const others[] = {"GNU AS", "GNU GIMPLE", 0};
     static const char *const own[] = {"libsanitizer/", "libgcc/", 0};
     read_units(d);
@@ -74,7 +74,7 @@ static void tell_compiled(struct debug *d) {
     }
 }
 
-void tell_kind(struct debug *d) {
+void tell_kind(debug *d) {
     static const char rust[] = "/rustc/";      /* the folder that its library's sources are said to be in */
     Elf *elf = own_file(d);
     size_t size = 0;
@@ -147,7 +147,7 @@ static u64 slot_of_stub(const code_of_calls *c, u64 at) {
 }
 
 /* The function's name is as a stack has it, without what a compiler adds for a part. */
-static void tell_call(struct debug *d, code_of_calls *c, u64 at, u64 slot) {
+static void tell_call(debug *d, code_of_calls *c, u64 at, u64 slot) {
     u32 number = map_find(&c->slots.numbers, slot, 0);
     const symbol *s = number ? symbol_from(d, at) : 0;
     if (!s || s->at > at || !s->is_function || !map_adds(&c->told, s->at, number)) return;
@@ -160,7 +160,7 @@ static void tell_call(struct debug *d, code_of_calls *c, u64 at, u64 slot) {
     free(name);
 }
 
-void tell_calls(struct debug *d) {
+void tell_calls(debug *d) {
     enum { BYTES = 5 };
     code_of_calls c = {0};
     Elf *elf = own_file(d);

@@ -59,8 +59,8 @@ static void answer(u64 one, u64 two, const char *first, const char *second) {
     fwrite(second, 1, r.second, stdout);
 }
 
-static void answer_symbols(struct debug *d, u64 page) {
-    const u64 last = page + (SYMBOL_PAGE - 1);
+static void answer_symbols(debug *d, u64 page) {
+    u64 last = page + (SYMBOL_PAGE - 1);
     const symbol *s;
     for (u64 at = page; (s = symbol_from(d, at)) && s->at <= last; at = s->at + s->size) {
         answer(s->at, s->size << SYMBOL_FLAGS | (s->is_twice ? SYMBOL_IS_TWICE : 0), s->name, "");
@@ -68,7 +68,7 @@ static void answer_symbols(struct debug *d, u64 page) {
     }
 }
 
-static void answer_frames(struct debug *d, const u64 *addresses, u64 count) {
+static void answer_frames(debug *d, const u64 *addresses, u64 count) {
     debug_frame frames[MOST_INLINED];
     for (u64 k = 0; k < count; k++) {
         int found = frames_at(d, addresses[k], frames, MOST_INLINED);
@@ -81,7 +81,7 @@ static void answer_frames(struct debug *d, const u64 *addresses, u64 count) {
     }
 }
 
-static void answer_members(struct debug *d, u64 address, const u64 *parts, u64 count) {
+static void answer_members(debug *d, u64 address, const u64 *parts, u64 count) {
     for (u64 k = 0; k + 1 < count; k += 2) {
         char name[NAME_BYTES] = "";
         int is_other = add_member(d, address, parts[k], parts[k + 1], name, sizeof name);
@@ -91,7 +91,7 @@ static void answer_members(struct debug *d, u64 address, const u64 *parts, u64 c
 
 static void give_source(const char *path) { answer(0, 0, path, ""); }
 
-static void answer_request(struct debug *d, const request *r, const u64 *numbers) {
+static void answer_request(debug *d, const request *r, const u64 *numbers) {
     char name[NAME_BYTES] = "";
     const char *text;
     size_t length;
@@ -122,7 +122,7 @@ static void answer_request(struct debug *d, const request *r, const u64 *numbers
     }
 }
 
-static void answer_requests(struct debug *d) {
+static void answer_requests(debug *d) {
     static u64 numbers[MOST_NUMBERS + 1];  /* the last one ends a text */
     static const row end = {.first = END_ROW};
     request r;
@@ -138,7 +138,7 @@ int main(int count, char **words) {
     if (count != 2 && count != 3) return 3;
     limit_itself(words[1]);
     unsetenv("DEBUGINFOD_URLS");           /* no server is asked for debug information */
-    struct debug *d = open_debug(words[1]);
+    debug *d = open_debug(words[1]);
     if (count == 2) answer_requests(d);
     else if (!strcmp(words[2], "kind")) tell_kind(d);
     else tell_calls(d);

@@ -18,7 +18,7 @@ static u64 address_of_variable(Dwarf_Die *die) {
 }
 
 static int note_variable(void *to, Dwarf_Die *e) {
-    struct debug *d = to;
+    debug *d = to;
     int tag = dwarf_tag(e);
     u64 address = tag == DW_TAG_variable ? address_of_variable(e) : 0;
     Dwarf_Die *known = address ? ENTRY(d->variables, address + d->bias, 0) : 0;
@@ -29,7 +29,7 @@ static int note_variable(void *to, Dwarf_Die *e) {
 }
 
 /* Those in functions are read when one isn't among the others. */
-Dwarf_Die *variable_at(struct debug *d, u64 address) {
+Dwarf_Die *variable_at(debug *d, u64 address) {
     u32 number = 0;
     read_units(d);
     for (int many = 1; !(number = map_find(&d->variables.numbers, address, 0)) && many <= 2; many++) {
@@ -243,7 +243,7 @@ void add_members(Dwarf_Die type, u64 offset, u64 length, text *to) {
     }
 }
 
-int add_member(struct debug *d, u64 address, u64 offset, u64 length, char *buffer, size_t size) {
+int add_member(debug *d, u64 address, u64 offset, u64 length, char *buffer, size_t size) {
     text to = {buffer, size, offset, 0};
     Dwarf_Die *variable = variable_at(d, address), type;
     if (variable && !d->is_alien && type_of(variable, &type)) add_members(type, offset, length, &to);
@@ -312,7 +312,7 @@ static void look_in(search *s, Dwarf_Die *scope, const char *inlined, int depth)
     }
 }
 
-const char *add_local(struct debug *d, place_of_local at, char *buffer, size_t size) {
+const char *add_local(debug *d, place_of_local at, char *buffer, size_t size) {
     search s = {.at = at};
     if (!find_function(d, at.pc, &s.function)) return 0;
     s.at.pc -= d->bias;

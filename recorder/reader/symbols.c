@@ -39,7 +39,7 @@ char *told_name(const Dwarf_Die *of) {
     return add_qualified_name(of, &to) ? copied(name) : 0;
 }
 
-static void take_symbol(struct debug *d, int number) {
+static void take_symbol(debug *d, int number) {
     GElf_Sym s;
     GElf_Addr at;
     GElf_Word section;
@@ -57,7 +57,7 @@ static int by_address(const void *a, const void *b) {
     return x->at < y->at ? -1 : x->at > y->at ? 1 : strcmp(x->linked, y->linked);
 }
 
-static void read_symbols(struct debug *d) {
+static void read_symbols(debug *d) {
     if (d->has_symbols++) return;
     int count = d->file ? dwfl_module_getsymtab(d->file) : 0;
     for (int k = 1; k < count; k++) take_symbol(d, k);
@@ -70,7 +70,7 @@ static void read_symbols(struct debug *d) {
     }
 }
 
-static const char *name_of(struct debug *d, symbol *s) {
+static const char *name_of(debug *d, symbol *s) {
     int is_told = !s->name && !s->is_function && (is_of_other(s->linked) || is_static_local(s->linked));
     const Dwarf_Die *variable = is_told ? variable_at(d, s->at) : 0;
     if (variable) s->name = told_name(variable);
@@ -78,7 +78,7 @@ static const char *name_of(struct debug *d, symbol *s) {
 }
 
 /* Names the variables, and marks those of one name, static in several files. */
-static void name_variables(struct debug *d) {
+static void name_variables(debug *d) {
     if (d->has_names++) return;
     symbol **first = zeroed(d->symbols.count + 1, sizeof *first);
     EACH(s, d->symbols) {
@@ -90,7 +90,7 @@ static void name_variables(struct debug *d) {
     free(first);
 }
 
-const symbol *symbol_from(struct debug *d, u64 address) {
+const symbol *symbol_from(debug *d, u64 address) {
     read_symbols(d);
     symbol *all = d->symbols.at;
     u64 count = d->symbols.count, next = COUNT_BEFORE(k, count, all[k].at <= address);
@@ -102,7 +102,7 @@ const symbol *symbol_from(struct debug *d, u64 address) {
     return s;
 }
 
-int is_variable(struct debug *d, const char *name) {
+int is_variable(debug *d, const char *name) {
     read_symbols(d);
     name_variables(d);
     return map_find_bytes(&d->names, name, strlen(name)) != 0;

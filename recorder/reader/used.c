@@ -5,7 +5,7 @@
 
 enum { WORD = 128, MOST_ENTRIES = 1 << 16 };
 /* what the code sees */
-typedef struct { struct debug *d; Dwarf_Die unit, function; int entries; } view;
+typedef struct { debug *d; Dwarf_Die unit, function; int entries; } view;
 
 static int has_name(Dwarf_Die *e, const char *name) {
     const char *own = dwarf_diename(e);
@@ -139,7 +139,7 @@ static const char *skip(const char *at) { return at + strspn(at, " \t"); }
 static int is_arrow(const char *at) { return at[0] == '-' && at[1] == '>'; }
 
 static int precedes(const char *sign, const char *line, const char *at) {
-    const ptrdiff_t length = strlen(sign);
+    ptrdiff_t length = strlen(sign);
     return at - line >= length && !strncmp(at - length, sign, length);
 }
 
@@ -324,7 +324,7 @@ static int begin_of_object(const meaning *m, const place_in_block *at, u64 size,
     return latest <= last && (m->is_lock ? at->length <= 1 : length == at->length);
 }
 
-meaning meaning_in_line(struct debug *d, u64 pc, int is_write, const char *line, int column) {
+meaning meaning_in_line(debug *d, u64 pc, int is_write, const char *line, int column) {
     static const meaning none;
     view v = {.d = d};
     meaning m = none;
@@ -333,7 +333,7 @@ meaning meaning_in_line(struct debug *d, u64 pc, int is_write, const char *line,
     return means_at(&v, line, line + column - 1, is_write, &m) && m.has_member && m.has_object ? m : none;
 }
 
-static meaning find_meaning(struct debug *d, u64 pc, int is_write) {
+static meaning find_meaning(debug *d, u64 pc, int is_write) {
     char line[LINE_BYTES];
     const char *path;
     int number, column, is_told = line_at(d, pc, &path, &number, &column) && column > 0;
@@ -343,7 +343,7 @@ static meaning find_meaning(struct debug *d, u64 pc, int is_write) {
 }
 
 /* Each access in the code is looked at once. */
-int object_by_use(struct debug *d, place_in_block use, int is_write, object_in_block *found) {
+int object_by_use(debug *d, place_in_block use, int is_write, object_in_block *found) {
     meaning *m = ENTRY(d->meanings, use.pc, is_write);
     if (!m->is_met) *m = find_meaning(d, use.pc, is_write);
     m->is_met = 1;

@@ -98,7 +98,7 @@ static context *inner_calls_of(context *kind, int most) {
 static uint64_t kind_of(const context *c) {
     const context call = {.caller = c->caller, .function = c->outer->function, .way = c->way};
     context *rest = c->outer->kind == NO_KIND ? 0 : &kept[c->outer->kind >> KIND_AT];
-    const struct module *module = module_of(c->function);
+    const module *module = module_of(c->function);
     if (rest && module && module->is_in_c) rest = inner_calls_of(rest, CALLS_IN_C - 1);
     context *k = rest;
     while (k && k != kept && !is_same_call(k, &call)) k = k->outer;

@@ -277,7 +277,7 @@ static void put_held(const cell *c, key key, uint64_t address) {
     uint64_t byte = use->what >> FIRST_BYTE & (GRAIN - 1), low = use->from % (1 << NUMBER_BITS);
     uint64_t first = (address / GRAIN - (c->owner == READERS ? 0 : low)) * GRAIN + byte;
     uint16_t number = c->owner == READERS ? low : c->number;
-    put_late((struct record){first | (uint64_t)number << 48, use->what ^ byte << FIRST_BYTE}, *key.word);
+    put_late((record){first | (uint64_t)number << 48, use->what ^ byte << FIRST_BYTE}, *key.word);
 }
 
 /* Its owner stays, and the phase. */
@@ -392,7 +392,7 @@ static int is_for_readers(cell *c, uint32_t serial, cell_use use) {
 }
 
 /* ---- accesses ---- */
-static int hold_in_one(uint32_t serial, struct record r, uint64_t kind, uint64_t word) {
+static int hold_in_one(uint32_t serial, record r, uint64_t kind, uint64_t word) {
     uint64_t address = r.where & LOW_48_BITS;
     cell_page *page = page_at(address, 1);
     cell *c = cell_in(page, address);
@@ -473,7 +473,7 @@ int words_of_range(uint32_t serial, cell_use use, uint64_t address, uint64_t end
 }
 
 /* It is held back if each of its cells can: so it is whole when one of them puts it. */
-static int hold_in_several(uint32_t serial, struct record r, uint64_t end, uint64_t kind, uint64_t word) {
+static int hold_in_several(uint32_t serial, record r, uint64_t end, uint64_t kind, uint64_t word) {
     uint64_t address = r.where & LOW_48_BITS, *words[MOST_CELLS];
     cell_use use = {what_of_use(r.what, address), kind};
     use_range(serial, r.where >> 48, address, end);
@@ -539,7 +539,7 @@ static void renew(uint64_t address, uint64_t end) {
 }
 
 /* ---- what the recorder calls ---- */
-static enum operation operation_of(struct record r) { return r.what >> 48 & 63; }
+static enum operation operation_of(record r) { return r.what >> 48 & 63; }
 
 static int is_in_one(uint64_t address, uint64_t end) { return address / GRAIN == (end - 1) / GRAIN; }
 
@@ -555,7 +555,7 @@ static void use_by_all(uint64_t address, uint64_t end) {
     if (!one || one->owner != USED_BY_ALL) use_range(USED_BY_ALL, 0, address, end);
 }
 
-int hold_back(uint32_t serial, struct record r, uint64_t bytes, uint64_t kind, uint64_t word) {
+int hold_back(uint32_t serial, record r, uint64_t bytes, uint64_t kind, uint64_t word) {
     enum operation operation = operation_of(r);
     uint64_t address = r.where & LOW_48_BITS, end = address + bytes;
     uint16_t number = r.where >> 48;

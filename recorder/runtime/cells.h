@@ -106,7 +106,7 @@ void limit_cells(uint64_t bytes);      /* takes no more than so many from here o
    used, and it was made in a context of this kind; or it isn't used, where the same one is held back right
    before. With NO_POSITION it is recorded. Puts late ones. */
 enum { IS_HELD = 1, IS_HELD_ALREADY };
-int hold_back(uint32_t serial, struct record r, uint64_t bytes, uint64_t kind, uint64_t word);
+int hold_back(uint32_t serial, record r, uint64_t bytes, uint64_t kind, uint64_t word);
 /* The word of a use in a cell, by its owner or one of its readers: it is held back by a new word. Null where
    it may not be, where that needs a record or more memory, or the use has no number yet. */
 uint64_t *word_of_use(cell *c, uint64_t address, uint32_t serial, uint16_t number, cell_use use);
@@ -115,7 +115,7 @@ uint64_t *word_of_use(cell *c, uint64_t address, uint32_t serial, uint16_t numbe
 enum { MOST_RANGE = ((1 << GRAINS_BEFORE) - 1) * GRAIN, MOST_CELLS = MOST_RANGE / GRAIN };
 int words_of_range(uint32_t serial, cell_use use, uint64_t address, uint64_t end, uint64_t **words);
 /* The program's, or a test's: records what was held back, with its word. */
-void put_late(struct record r, uint64_t word);
+void put_late(record r, uint64_t word);
 
 #define NO_POSITION 0
 

@@ -4,7 +4,7 @@
 #include <wchar.h>
 
 enum direction { OUTPUT, INPUT };
-struct conversion {
+typedef struct {
     const char *begin, *end;
     char kind;                         /* its letter; 0 where there is no more */
     char star;                         /* the width is an argument; of input: nothing is stored */
@@ -12,7 +12,7 @@ struct conversion {
     char allocates;                    /* of input: the argument is the address of a pointer */
     int width, precision;              /* -1: none */
     int size;                          /* of an integer of its length; with L it is 16 */
-};
+} conversion;
 
 static int number_at(const char **p) {
     int n = -1;
@@ -32,8 +32,8 @@ static const char *end_of_set(const char *p) {               /* of "[^]a-z]", fr
     return end ? end + 1 : "";
 }
 
-static struct conversion next_conversion(const char *p, enum direction direction) {
-    struct conversion c = {.width = -1, .precision = -1};
+static conversion next_conversion(const char *p, enum direction direction) {
+    conversion c = {.width = -1, .precision = -1};
     while ((p = strchr(p, '%')) && p[1] == '%') p += 2;
     if (!p) return c;
     c.begin = p++;
@@ -54,7 +54,7 @@ static struct conversion next_conversion(const char *p, enum direction direction
 }
 
 static int is_one_of(char kind, const char *kinds) { return strchr(kinds, kind) != 0; }
-static int is_wide(const struct conversion *c) { return c->size == 8 || c->kind == 'S' || c->kind == 'C'; }
+static int is_wide(const conversion *c) { return c->size == 8 || c->kind == 'S' || c->kind == 'C'; }
 static size_t wide_text(const wchar_t *s, size_t most) {
     return least(wcsnlen(s, most) + 1, most) * sizeof *s;
 }
@@ -78,7 +78,7 @@ static size_t wide_text(const wchar_t *s, size_t most) {
     }
 
 /* ---- output ---- */
-static void note_text_of(uint64_t seen, const struct conversion *c, const void *s, int precision) {
+static void note_text_of(uint64_t seen, const conversion *c, const void *s, int precision) {
     size_t most = precision < 0 ? SIZE_MAX : (size_t)precision;
     if (s) READS(s, is_wide(c) ? wide_text(s, most) : text_within(s, most));
 }
@@ -88,7 +88,7 @@ static void note_output(uint64_t seen, const char *format, va_list given) {
     va_list more;
     va_copy(more, given);
     READS(format, text(format));
-    for (struct conversion c = next_conversion(format, OUTPUT); c.kind; c = next_conversion(c.end, OUTPUT)) {
+    for (conversion c = next_conversion(format, OUTPUT); c.kind; c = next_conversion(c.end, OUTPUT)) {
         if (c.star) (void)va_arg(more, int);
         int precision = c.star_behind_point ? va_arg(more, int) : c.precision;
         if (is_one_of(c.kind, "diouxXcCp")) (void)va_arg(more, long); /* one of fewer bytes takes as many */
@@ -122,7 +122,7 @@ PRINTS(snprintf, (char *s, size_t n,), (s, n,), (int k, size_t room,), (k, room,
 PRINTS(asprintf, (char **s,), (s,), (int k,), (k,), , WRITES(s, sizeof *s), WRITES_TEXT(*s))
 
 /* ---- input ---- */
-static size_t stored_bytes(const struct conversion *c, const void *to) {
+static size_t stored_bytes(const conversion *c, const void *to) {
     size_t character = is_wide(c) ? sizeof(wchar_t) : 1;
     if (is_one_of(c->kind, "diouxXn")) return least(c->size, 8);
     if (is_one_of(c->kind, "eEfFgGaA")) return c->size;
@@ -136,7 +136,7 @@ static size_t stored_bytes(const struct conversion *c, const void *to) {
 static void note_input(uint64_t seen, const char *format, va_list more, int stored) {
     READS(format, text(format));
     const char *reached = format;
-    for (struct conversion c = next_conversion(format, INPUT); c.kind; c = next_conversion(c.end, INPUT)) {
+    for (conversion c = next_conversion(format, INPUT); c.kind; c = next_conversion(c.end, INPUT)) {
         if (c.star) continue;
         if (c.kind == 'n' ? stored <= 0 && c.begin != reached : stored-- <= 0) break;
         void *to = va_arg(more, void *);

@@ -4,14 +4,14 @@
 #include <link.h>
 
 enum { MAX_MODULES = 256 };
-struct module modules[MAX_MODULES];
+module modules[MAX_MODULES];
 int module_count;
 
 /* Libraries whose order is recorded at calls, or told by archer: what they use within isn't the program's. */
 static const char *const own_orders[] = {"/libomp.", "/libiomp5.", "/libQt5Core.", "/libQt6Core.",
                                          "/libglib-2."};
 enum { OWN_ORDERS = sizeof own_orders / sizeof *own_orders };
-static struct module with_own_order[OWN_ORDERS];
+static module with_own_order[OWN_ORDERS];
 
 int tells_its_own_order(uint64_t caller) {
     for (int i = 0; i < OWN_ORDERS; i++)
@@ -19,7 +19,7 @@ int tells_its_own_order(uint64_t caller) {
     return 0;
 }
 
-static void note_module(struct dl_phdr_info *info, struct module m) {
+static void note_module(struct dl_phdr_info *info, module m) {
     char path[PATH_MAX] = "", line[PATH_MAX + 64];
     if (!*info->dlpi_name && readlink("/proc/self/exe", path, sizeof path - 1) < 0) return;
     if (*info->dlpi_name) snprintf(path, sizeof path, "%s", info->dlpi_name);
@@ -59,8 +59,8 @@ static enum language language_of(names its) {
     return IN_C;
 }
 
-static struct module bounds_of(const struct dl_phdr_info *info) {
-    struct module m = {~0ull, 0, 0};
+static module bounds_of(const struct dl_phdr_info *info) {
+    module m = {~0ull, 0, 0};
     for (int i = 0; i < info->dlpi_phnum; i++) {
         const ElfW(Phdr) *part = &info->dlpi_phdr[i];
         uint64_t from = info->dlpi_addr + part->p_vaddr;
@@ -77,7 +77,7 @@ static unsigned long long seen_modules;
 static int see_module(struct dl_phdr_info *info, size_t size, void *how_many) {
     if (info->dlpi_adds == seen_modules) return 1;
     *(unsigned long long *)how_many = info->dlpi_adds;
-    struct module m = bounds_of(info);
+    module m = bounds_of(info);
     uint64_t own = (uint64_t)see_module;
     names its = names_of(info);
     enum language language = own < m.low || own >= m.high ? language_of(its) : WITHOUT_HOOKS;
@@ -119,11 +119,11 @@ int program_has(const char *name) {
 }
 
 /* ---- functions of libraries that the program may have by dlopen, so they aren't behind this one ---- */
-typedef struct { struct { struct module bounds; const char *name; } at[MAX_MODULES]; int count; } loaded;
+typedef struct { struct { module bounds; const char *name; } at[MAX_MODULES]; int count; } loaded;
 
 static int add_loaded(struct dl_phdr_info *info, size_t size, void *loaded_) {
     loaded *all = loaded_;
-    struct module m = bounds_of(info);
+    module m = bounds_of(info);
     if (m.high && all->count < MAX_MODULES)
         all->at[all->count++] = (__typeof__(*all->at)){m, info->dlpi_name};
     return 0;
@@ -146,17 +146,17 @@ void *library_symbol(const char *name) {
     return p;
 }
 
-void *find_forwarded(struct forwarded *which) {
+void *find_forwarded(forwarded *which) {
     which->function = library_symbol(which->name);
     if (which->function) return which->function;
     tell("shb recorder: no library has %s\n", which->name);
     _exit(127);                        /* as the loader does */
 }
 
-extern struct forwarded __start_forwarded[] __attribute__((visibility("hidden"))),
+extern forwarded __start_forwarded[] __attribute__((visibility("hidden"))),
     __stop_forwarded[] __attribute__((visibility("hidden")));
 __attribute__((constructor(101))) static void find_all_forwarded(void) {
-    for (struct forwarded *f = __start_forwarded; f < __stop_forwarded; f++) function_if_any(f);
+    for (forwarded *f = __start_forwarded; f < __stop_forwarded; f++) function_if_any(f);
 }
 
 int is_behind_the_c_library(void) {
@@ -192,7 +192,7 @@ static int begins_at(struct dl_phdr_info *info, size_t size, void *low) {
     return bounds_of(info).low == *(uint64_t *)low;
 }
 
-static void keep_addresses(struct module gone) {
+static void keep_addresses(module gone) {
     static _Atomic int kept;
     uint64_t page = getpagesize(), from = gone.low & -page, bytes = ((gone.high + page - 1) & -page) - from;
     if (atomic_fetch_add(&kept, 1) >= MOST_GONE) return;

@@ -11,7 +11,7 @@ enum { STEP_BYTES = 512 << 10, CHILD_BYTES = 4 << 20 };
 
 int stall_seconds;
 static char *header;
-static struct record *records;
+static record *records;
 static uint64_t written, most_records;
 static uint64_t forgotten, sum;        /* so many needn't be in memory; the sum of these, for the header */
 static uint32_t contexts;              /* of the record so far */
@@ -75,7 +75,7 @@ static int add_step(uint64_t have) {
 
 /* What is written is in the file, and read no more: else it would count as the program's memory. */
 static void forget_written(void) {
-    const uint64_t page = getpagesize(), from = (uint64_t)&records[forgotten] & -page,
+    uint64_t page = getpagesize(), from = (uint64_t)&records[forgotten] & -page,
         end = (uint64_t)&records[written] & -page;
     for (; forgotten < written; forgotten++) sum += entry_sum(forgotten, records[forgotten]);
     if (!in_memory && end > from) madvise((void *)from, end - from, MADV_DONTNEED);
@@ -119,7 +119,7 @@ int is_segment_full(void) {
 /* ---- the locks that are held: a segment begins with them. So each access has its locks, and who releases
    one orders those who take it next ---- */
 enum { MOST_HELD = 1 << 16 };
-static struct record held_locks[MOST_HELD];                  /* by which they were taken, in their order */
+static record held_locks[MOST_HELD];                  /* by which they were taken, in their order */
 static uint32_t held_count;
 
 /* Ends the last hold with these bits, or all of them. Returns whether there was one. */
@@ -135,7 +135,7 @@ static int end_holds(uint64_t where, uint64_t bits, int all) {
 }
 
 /* Each record that may take or leave one. A lock may be released by another thread than took it. */
-static void note_held(struct record r) {
+static void note_held(record r) {
     switch ((enum operation)(r.what >> 48 & 63)) {
     case OP_LOCK: case OP_READ_LOCK: case OP_WRITE_LOCK:
         if (held_count < MOST_HELD) held_locks[held_count++] = r;
@@ -150,15 +150,15 @@ static void note_held(struct record r) {
 }
 
 /* ---- records ---- */
-static struct record record_of(const thread *t, enum operation operation, uint64_t where, uint64_t size,
+static record record_of(const thread *t, enum operation operation, uint64_t where, uint64_t size,
                                uint64_t caller) {
-    return (struct record){(where & LOW_48_BITS) | (uint64_t)t->number << 48,
+    return (record){(where & LOW_48_BITS) | (uint64_t)t->number << 48,
                            (caller & LOW_48_BITS) | (uint64_t)operation << 48 | size << 54};
 }
 
 static void add(const thread *t, enum operation operation, uint64_t where, uint64_t size, uint64_t caller) {
     records[written++] = record_of(t, operation, where, size < SIZE_FOLLOWS ? size : SIZE_FOLLOWS, caller);
-    if (size >= SIZE_FOLLOWS) records[written++] = (struct record){size, (uint64_t)OP_SIZE << 48};
+    if (size >= SIZE_FOLLOWS) records[written++] = (record){size, (uint64_t)OP_SIZE << 48};
 }
 
 enum { ROOM = 5 };                     /* of one access, its depth and its way, with sizes */
@@ -230,7 +230,7 @@ int begin_work(thread *t) {
 
 /* Is it a read that the thread made before, with nothing but reads of any thread in between?  Then it got the
    same value, by the same order. Where there are cells most such reads are held back. */
-static int is_repeated(thread *t, struct record r) {
+static int is_repeated(thread *t, record r) {
     for (const struct read *one = t->recent; one < t->recent + RECENT_READS; one++)
         if (one->r.where == r.where && one->r.what == r.what && one->changes == changes
             && one->context == t->in) return 1;
@@ -239,9 +239,9 @@ static int is_repeated(thread *t, struct record r) {
 }
 
 /* ---- what is held back (cells.c) ---- */
-void put_late(struct record r, uint64_t word) {
+void put_late(record r, uint64_t word) {
     if (!make_room(2)) return;
-    records[written++] = (struct record){word & (IS_REPEATED | POSITIONS),
+    records[written++] = (record){word & (IS_REPEATED | POSITIONS),
                                          word >> CONTEXT_AT | (uint64_t)OP_LATE << 48};
     records[written++] = r;
 }
@@ -281,7 +281,7 @@ static uint64_t bytes_of(enum operation operation, uint64_t size) {
     return is_plain(operation) || (operation >= OP_START && operation <= OP_FREE) ? size : 1;
 }
 
-static int is_held_back(thread *t, enum operation operation, struct record r, uint64_t bytes) {
+static int is_held_back(thread *t, enum operation operation, record r, uint64_t bytes) {
     uint64_t position = is_plain(operation) || is_atomic(operation) ? position_now(t) : NO_POSITION;
     int held = cell_regions ? hold_back(t->serial, r, bytes, t->kind, position) : 0;
     last_position += held == IS_HELD;
@@ -289,7 +289,7 @@ static int is_held_back(thread *t, enum operation operation, struct record r, ui
 }
 
 /* Of locks that it took unrecorded, or released so, the count is wrong, and so are its kinds for a while. */
-static void count_locks(thread *t, const struct record *r, enum operation operation) {
+static void count_locks(thread *t, const record *r, enum operation operation) {
     int takes = operation == OP_LOCK || operation == OP_READ_LOCK || operation == OP_WRITE_LOCK;
     if (!takes && operation != OP_UNLOCK && operation != OP_RW_UNLOCK) return;
     uint64_t lock = (r->where & LOW_48_BITS) * 0x9E3779B97F4A7C15u;
@@ -303,7 +303,7 @@ static void put_now(thread *t, enum operation operation, pointer address, uint64
     add_contexts(t);
     uint64_t inside = inside_of(t, operation, size);
     changes += !only_reads(operation);
-    struct record r = record_of(t, operation, (uint64_t)address, inside, caller);
+    record r = record_of(t, operation, (uint64_t)address, inside, caller);
     if (is_held_back(t, operation, r, bytes_of(operation, size))
         || (only_reads(operation) && is_repeated(t, r)) || !make_room(ROOM)) return;
     int is_exact = inside >> LOGARITHM_BITS == DEPTH_BEFORE || !has_depth_inside(operation, size);
@@ -311,7 +311,7 @@ static void put_now(thread *t, enum operation operation, pointer address, uint64
     uint64_t way = is_plain(operation) ? 0 : way_to(t, t->depth, caller);
     if (way) add(t, OP_WAY, 0, 0, way);
     records[written++] = r;
-    if (inside == SIZE_FOLLOWS) records[written++] = (struct record){size, (uint64_t)OP_SIZE << 48};
+    if (inside == SIZE_FOLLOWS) records[written++] = (record){size, (uint64_t)OP_SIZE << 48};
     if (segment_records) note_held(r);
     count_locks(t, &r, operation);
 }
@@ -419,7 +419,7 @@ static uint64_t map_bytes(void) { return HEADER_BYTES + most_records * sizeof *r
 static int use_map(void *map) {
     if (map == MAP_FAILED) return 0;
     header = map;
-    records = (struct record *)(header + HEADER_BYTES);
+    records = (record *)(header + HEADER_BYTES);
     return 1;
 }
 

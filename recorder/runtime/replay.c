@@ -169,10 +169,10 @@ void add_unusual(const thread *t) { add(entry_of(t, t->steps) | UNUSUAL); }
 
 /* What the list has next of this thread, or `otherwise`. */
 uint64_t next_value(const thread *t, uint64_t otherwise) {
-    const uint64_t flags = entry_of(t, VALUE) | UNUSUAL, low = at + 1 < due_count ? due[at] : 0;
+    uint64_t flags = entry_of(t, VALUE) | UNUSUAL, low = at + 1 < due_count ? due[at] : 0;
     if (!is_replaying || (low & flags) != flags || low >> 48 != t->number) return otherwise;
     move_on();
-    const uint64_t high = due[at];
+    uint64_t high = due[at];
     move_on();
     return (low & UINT32_MAX) | high << 32;
 }

@@ -80,7 +80,7 @@ typedef struct thread {
     uint32_t locks;                    /* that it took and has yet to release */
     uint64_t sum_of_locks, set;        /* their set, as cells.h has it in a use */
     /* its last ones in the record */
-    struct read { struct record r; uint64_t changes; const context *context; } recent[RECENT_READS];
+    struct read { record r; uint64_t changes; const context *context; } recent[RECENT_READS];
     unsigned next_recent;
     char is_over;                      /* joined, or detached and gone */
     char ends;                         /* its ways to an end without a join (way_to_end) */
@@ -274,11 +274,11 @@ uint64_t begin_quick(thread *t);       /* with the turn, at a hook's end: so man
 void end_quick(thread *t);             /* with the turn; or under the guard, by the one who took it over */
 
 /* modules.c */
-struct module { uint64_t low, high; int is_in_c; };
-extern struct module modules[];        /* those compiled with -fsanitize=thread */
+typedef struct { uint64_t low, high; int is_in_c; } module;
+extern module modules[];        /* those compiled with -fsanitize=thread */
 extern int module_count;
 /* the one of these in which it lies, or null */
-static inline const struct module *module_of(uint64_t code) {
+static inline const module *module_of(uint64_t code) {
     for (int i = 0; i < module_count; i++)
         if (code >= modules[i].low && code < modules[i].high) return &modules[i];
     return 0;
@@ -293,17 +293,17 @@ void note_modules(void);
 
 /* A function that one here stands for. All are looked up when the program begins, for a handler of a signal
    may not look for a name. */
-struct forwarded { const char *name; void *function; };
+typedef struct { const char *name; void *function; } forwarded;
 /* of one that wasn't there then; the program ends where no library has it */
-void *find_forwarded(struct forwarded *which);
-static inline void *function_if_any(struct forwarded *f) {
+void *find_forwarded(forwarded *which);
+static inline void *function_if_any(forwarded *f) {
     return f->function ? f->function : (f->function = next_symbol(f->name));
 }
-static inline void *function_of_name(struct forwarded *f) {
+static inline void *function_of_name(forwarded *f) {
     return f->function ? f->function : find_forwarded(f);
 }
 #define FORWARDED(name) ({ \
-    static struct forwarded forwarded_ __attribute__((section("forwarded"), aligned(16), used)) = {name, 0}; \
+    static forwarded forwarded_ __attribute__((section("forwarded"), aligned(16), used)) = {name, 0}; \
     &forwarded_; \
 })
 #define REAL_IF_ANY(f) ((__typeof__(&f))function_if_any(FORWARDED(#f)))

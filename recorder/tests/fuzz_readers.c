@@ -68,7 +68,7 @@ static void put(const void *bytes, size_t count, off_t at) {
 #ifdef FUZZ_TEXTS
 /* The first byte says which code of a module it is that the rest is a line of; what does that mean at each column? Nothing of this ends the process. */
 static void read_text(const uint8_t *data, size_t size) {
-    static struct debug *d;
+    static debug *d;
     char line[LINE_BYTES] = "";
     if (!d) read_units(d = open_debug("./module-of-texts"));
     memcpy(line, data + 1, size <= sizeof line ? size - 1 : sizeof line - 1);
@@ -90,7 +90,7 @@ static int read_module(void) {
     enum { MOST = 64 };
     char name[NAME_BYTES];
     debug_frame frames[MOST];
-    struct debug *d = open_debug(input);
+    debug *d = open_debug(input);
     why_unread(d);
     tell_kind(d);
     tell_calls(d);

@@ -7,24 +7,24 @@
 
 enum { MOST_BLOCKS = 1 << 16, MOST_HELD = (1 << ORDER_BITS) - 1 };
 
-static struct record *in, *out;
+static record *in, *out;
 static uint64_t count, written, held_there;
 static uint32_t serials[1 << 16], last_serial = 1 << 16;     /* of a thread with this number */
 static uint64_t contexts[1 << 16];     /* that it is in */
 static struct { uint64_t at, size; } blocks[MOST_BLOCKS];
 static uint64_t block_count;
 
-static void add(struct record r) {
+static void add(record r) {
     out[written++] = r;
     held_there = 0;
 }
 
-void put_late(struct record r, uint64_t word) {
-    add((struct record){word & (IS_REPEATED | POSITIONS), word >> CONTEXT_AT | (uint64_t)OP_LATE << 48});
+void put_late(record r, uint64_t word) {
+    add((record){word & (IS_REPEATED | POSITIONS), word >> CONTEXT_AT | (uint64_t)OP_LATE << 48});
     add(r);
 }
 
-static enum operation operation_of(struct record r) { return r.what >> 48 & 63; }
+static enum operation operation_of(record r) { return r.what >> 48 & 63; }
 
 static uint64_t size_of(uint64_t i) {
     uint64_t inside = in[i].what >> 54;
