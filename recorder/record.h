@@ -9,6 +9,10 @@
 #pragma once
 #include <stdint.h>
 
+/* of a function that is called rarely: apart from its callers, whose usual way is short then */
+#define RARE __attribute__((noinline))
+#define ALWAYS_INLINE static inline __attribute__((always_inline))
+
 #define ANY_RECORD "shb-record "
 #define RECORD_MAGIC ANY_RECORD "12\n"
 #define LINE_END_IN_PATH 1

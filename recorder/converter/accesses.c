@@ -246,13 +246,12 @@ static void keep_event(read_events *kept, u64 event) {
    that is written, if it isn't known yet whether it stands for others; else 0. */
 static u64 piece_event(const entry *e, const use *u, u32 number, const char *operation, u32 writer) {
     char text[NAME_BYTES + THREAD_BYTES];
-    const piece *p = piece_of(number);
     u64 event_number = 0, caller = e->caller;
     int is_kept = takes_piece(number);
     if (!is_kept && has_events(u->thread)) pass_event(u->thread);
     else if (writer == NOBODY) event_number = access_event(u->thread, operation, number, caller, u->own);
     else {
-        part name = variable_name(p->at, block_of(p->block));
+        part name = piece_name(number);
         int length = snprintf(text, sizeof text, "%.*s!%s", TEXT(name), thread_name(writer));
         event_number = event(u->thread, operation, (part){text, length}, caller);
     }

@@ -147,8 +147,7 @@ void end_region(u32 t) {
 void refine(const map *names) {
     char text[NAME_BYTES + 1];
     EACH(b, bundles) {
-        const piece *p = piece_of(b->piece);
-        part name = variable_name(p->at, block_of(p->block));
+        part name = piece_name(b->piece);
         *(char *)mempcpy(text, name.at, name.length) = '~';
         b->is_apart |= map_find_bytes(names, text, name.length + 1) != 0;
     }

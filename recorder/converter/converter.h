@@ -1,7 +1,6 @@
 /* What the parts of the converter share. */
 #pragma once
 #include "tables.h"
-#include "../record.h"
 #include "threads.h"
 
 /* What shb takes of a trace, as python/shb_common/limits.py has it. */
@@ -58,6 +57,7 @@ int meet_fork(const entry *e);
 void meet_start(const entry *e);
 u32 thread_bound(void);                /* all threads are below it */
 u32 next_thread(u32 t);                /* the one after it, of those that there may be */
+#define EACH_THREAD(t) for (u32 t = 0; t < thread_bound(); t = next_thread(t))
 u32 other_thread_of(const entry *e);   /* of a fork or join */
 int acquires(const entry *e), releases(const entry *e);      /* of an atomic access or a fence */
 int is_exchange(const entry *e);
@@ -334,6 +334,7 @@ int meets_thread(u32 t);               /* the trace names it; are these no more 
 void pass_event(u32 t);                /* an access that the page's trace lacks */
 part name_of_thread(u32 t);            /* with WIDE bytes that may be read */
 part variable_name(u64 address, const block *b);             /* it stands until the next call */
+part piece_name(u32 number);           /* the same of a piece, with WIDE bytes that may be read */
 /* Each returns the event's number in the trace, or 0. name: with WIDE bytes behind */
 u64 event(u32 t, const char *operation, part name, u64 caller);
 u64 access_event(u32 t, const char *operation, u32 piece, u64 caller, u64 own_place);

@@ -84,8 +84,8 @@ static part symbol_of(u64 address) {
     enum { MOST_KEPT = 1 << 20 };
     static char name[NAME_BYTES];
     static INTERNED(part) kept;
-    u32 number = map_find(&kept.numbers, address, 0);
-    if (number) return kept.at[number - 1];
+    const part *known = FOUND(kept, address, 0);
+    if (known) return *known;
     symbol_name(address, name, sizeof name);
     part found = {name, strlen(name)};
     if (kept.numbers.count == MOST_KEPT) return found;
@@ -99,9 +99,8 @@ part variable_name(u64 address, const block *b) {
     return (part){name, b ? write_block_name(name, address, b) : write_descriptor_name(name, address)};
 }
 
-/* The name of a piece, with WIDE bytes that may be read. Short ones are mostly found in a table of
-   recent ones. */
-static inline part piece_name(u32 number) {
+/* Short ones are mostly found in a table of recent ones. */
+inline part piece_name(u32 number) {
     enum { RECENT = 1 << 16, SHORT = 59 };
     static struct { u32 piece; uint8_t length; char name[SHORT]; } recent[RECENT];
     static char long_name[NAME_BYTES + WIDE];

@@ -34,8 +34,8 @@ void note_in_block(u64 at, u32 block_number) {
 }
 
 void note_use_of_block(u64 at, u32 block_number, use_of_block use) {
-    u32 number = map_find(&in_blocks.numbers, at, block_number);
-    chain *own = number ? &in_blocks.at[number - 1].own : 0;
+    in_block *i = FOUND(in_blocks, at, block_number);
+    chain *own = i ? &i->own : 0;
     for (u32 k = own ? own->last : 0; k; k = accesses.at[k - 1].before)
         if (accesses.at[k - 1].use.caller == use.caller) return;
     if (!own || own->count == MOST_OWN) return;

@@ -102,7 +102,7 @@ static u32 record_threads;
 
 /* One step with each record that is of use. Inline, for a step that is called by its address costs more than
    most do. */
-static inline __attribute__((always_inline)) void pass(void (*step)(const entry *), int is_first) {
+ALWAYS_INLINE void pass(void (*step)(const entry *), int is_first) {
     begin_memory_pass();
     begin_thread_pass();
     for (u64 i = 0, end = 0; i < record_count && !cut_reason; i++) {

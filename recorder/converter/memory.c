@@ -106,7 +106,8 @@ void write_blocks(const char *path) {
                                    {b->size, (u64)OP_SIZE << 48}};
         if (!b->stack && !b->freed && block_at(b->at) == b) fwrite(r, sizeof r, 1, file);
     }
-    if (!file || fflush(file) || ferror(file) || fclose(file)) cannot_write(path);
+    if (!file) cannot_write(path);
+    end_file(file, path);
 }
 
 inline u64 end_of_same(u64 from, u64 end) {

@@ -39,12 +39,6 @@ static module *module_at(u64 address) {
     return 0;
 }
 
-static char *cleaned(char *text) {        /* what would end a field or a line */
-    for (char *p = text; *p; p++)
-        if (*p == '|' || (unsigned char)*p < ' ') *p = '!';
-    return text;
-}
-
 static reader *reader_of(module *m) {
     return m->reader ? m->reader : (m->reader = open_reader(m->path));
 }
@@ -68,7 +62,7 @@ void read_modules(char *header) {
         for (char *p = m->path; *p; p++)
             if (*p == LINE_END_IN_PATH) *p = '\n';
         m->in_system = in_system(m->path);
-        m->is_recorder = !strncmp(basename(m->path), "libtsan.so", 10);
+        m->is_recorder = starts_with(basename(m->path), "libtsan.so");
         module_count++;
     }
 }
@@ -117,7 +111,7 @@ static const char a_lambda[] = "{lambda(";
 static char *own_lambda(char *name) {
     int depth = 0;
     for (char *p = name; *p; p++) {
-        if (!depth && !strncmp(p, a_lambda, strlen(a_lambda))) return p;
+        if (!depth && starts_with(p, a_lambda)) return p;
         depth += (*p == '<' || *p == '(') - (*p == '>' || *p == ')');
     }
     return 0;
@@ -175,7 +169,7 @@ static char *lambda_among(const char *name) {
 
 /* Rust's own tools alone can read what its compiler mangled. */
 int is_of_rust(const char *name) {
-    return !strncmp(name, "std::sys::", 10) || !strncmp(name, "__rust_", 7) || !strncmp(name, "_R", 2);
+    return starts_with(name, "std::sys::") || starts_with(name, "__rust_") || starts_with(name, "_R");
 }
 
 /* By its module and its name, not by what is inlined at its beginning. */
@@ -227,8 +221,7 @@ static void ask_members(module *m, const symbol *s, u64 address) {
 static const member *member_at(module *m, const symbol *s, u64 address) {
     u64 length = length_at(s, address);
     if (!map_find(&m->members.numbers, address, length)) ask_members(m, s, address);
-    u32 number = map_find(&m->members.numbers, address, length);
-    return number ? &m->members.at[number - 1] : 0;
+    return FOUND(m->members, address, length);
 }
 
 /* "x", "x.head", "x[3]", "x+8"; of a name that isn't the only one "x~ADDRESS"; outside the
@@ -384,7 +377,7 @@ static char *function_part(char *name) {
         clone[] = " [clone ";
     for (size_t i = 0; i < sizeof added / sizeof *added; i++) {
         char *at = strstr(name, added[i]), *before = at ? at - strlen(clone) : 0;
-        if (at) *(before > name && !strncmp(before, clone, strlen(clone)) ? before : at) = 0;
+        if (at) *(before > name && starts_with(before, clone) ? before : at) = 0;
     }
     return name;
 }

@@ -452,8 +452,8 @@ void write_holds(u32 t) {
 static hold *hold_of(u32 t, u64 key) {
     hold *h = hold_at(threads[t].last_hold);
     if (!h || h->key == key) return h;
-    u32 number = map_find(&last_holds.numbers, key, t);
-    return number ? hold_at(last_holds.at[number - 1]) : 0;
+    u32 *last = FOUND(last_holds, key, t);
+    return last ? hold_at(*last) : 0;
 }
 
 static map sets;                       /* of locks that a thread held */
@@ -512,7 +512,7 @@ void each_held(held_lock give, const char *operation) {
     typedef struct { u64 acquire; const hold *hold; u32 thread; } held;
     static VECTOR(held) all;
     all.count = 0;
-    for (u32 t = 0; t < thread_bound(); t = next_thread(t))
+    EACH_THREAD(t)
         for (const hold *h = first_hold(t); h; h = hold_behind(h))
             if (h->acquire) *PUSH(all) = (held){h->acquire, h, t};
     SORT(all, by_number);
@@ -575,8 +575,8 @@ static void pass_lock(object *o, u32 t, which w, u64 caller) {
 }
 
 static void publish(object *o, u32 version, u32 t, u64 caller) {
-    u32 number = map_find(&version_readers.numbers, index_of(o), version);
-    const list_entry *reader = number ? entry_of_list(version_readers.at[number - 1]) : 0;
+    u32 *readers = FOUND(version_readers, index_of(o), version);
+    const list_entry *reader = readers ? entry_of_list(*readers) : 0;
     for (; reader; reader = entry_of_list(reader->next))
         pass_lock(o, t, to_thread(version, reader->thread), caller);
 }

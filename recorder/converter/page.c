@@ -105,7 +105,7 @@ int read_races(const char *path) {
         if (!first || first >= second || *rest != ' ' || !rest[1]) die("%s: this is no race: %s", path, line);
         add_race(first, second, rest + 1);
     }
-    if (ferror(file)) die("cannot read %s: %s", path, strerror(errno));
+    if (ferror(file)) cannot_read(path);
     return 0;
 }
 
@@ -244,8 +244,7 @@ void note_sight(u32 t, u64 own, u32 number, u32 writer, int writes) {
 }
 
 static void write_sight(const sight *s) {
-    const piece *p = piece_of(s->piece);
-    part name = variable_name(p->at, block_of(p->block)), written = place_of(s->written),
+    part name = piece_name(s->piece), written = place_of(s->written),
         read = place_of(s->read);
     int is_atomic = s->writer != NOBODY;
     fprintf(uses_file, "seen\t%.*s%s%s\t%.*s\t%.*s\n", TEXT(name), is_atomic ? "!" : "",
@@ -266,8 +265,7 @@ static void write_sum(const sum *s) {
 }
 
 static void write_use(const use *u) {
-    const piece *p = piece_of(u->piece);
-    part name = variable_name(p->at, block_of(p->block)), place = place_of(u->own);
+    part name = piece_name(u->piece), place = place_of(u->own);
     fprintf(uses_file, "use\t%c\t%.*s\t", u->word, TEXT(name));
     write_own_name(uses_file, u->local);
     fprintf(uses_file, "\t%.*s", TEXT(place));
@@ -287,5 +285,5 @@ void end_uses(void) {
     EACH_OF(s, sights.at, sights.numbers.count) write_sight(s);
     if (!are_sets_apart()) fputs("sets\n", uses_file);
     fprintf(uses_file, "events\t%lu\n", written);
-    if (fflush(uses_file) || ferror(uses_file) || fclose(uses_file)) cannot_write(uses_path);
+    end_file(uses_file, uses_path);
 }

@@ -72,7 +72,7 @@ thread_state *threads;
 static __attribute__((constructor)) void map_threads(void) { threads = mapped(THREADS, sizeof *threads); }
 
 void forget_thread_states(void) {
-    for (u32 t = 0; t < thread_bound(); t = next_thread(t)) {
+    EACH_THREAD(t) {
         thread_state *s = &threads[t];
         thread_calls *c = &s->calls;
         c->calls.count = c->known = c->owned = c->told = c->now = c->in = c->length = c->depth = c->last = 0;
@@ -159,11 +159,11 @@ static void check_entries(u64 most) {
 static char *map_file(const char *path, u64 *size) {
     int f = open(path, O_RDONLY);
     struct stat status;
-    if (f < 0 || fstat(f, &status)) die("cannot read %s: %s", path, strerror(errno));
+    if (f < 0 || fstat(f, &status)) cannot_read(path);
     *size = status.st_size;
     if (!S_ISREG(status.st_mode) || *size < HEADER_BYTES) die("%s is no record", path);
     char *file = mmap(0, *size, PROT_READ, MAP_PRIVATE, f, 0);
-    if (file == MAP_FAILED) die("cannot read %s: %s", path, strerror(errno));
+    if (file == MAP_FAILED) cannot_read(path);
     return file;
 }
 
@@ -203,7 +203,7 @@ void open_record(const char *path) {
 void carry_blocks(const char *path) {
     struct stat status;
     FILE *file = fopen(path, "r");
-    if (!file || fstat(fileno(file), &status)) die("cannot read %s: %s", path, strerror(errno));
+    if (!file || fstat(fileno(file), &status)) cannot_read(path);
     carried_count = status.st_size / sizeof *carried;
     record *blocks = zeroed(carried_count, sizeof *blocks);
     if (fread(blocks, sizeof *blocks, carried_count, file) != carried_count) die("cannot read %s", path);

@@ -14,11 +14,11 @@ static u64 common_length;
 /* Rust's own library, which programs mostly have as it was compiled without hooks, but for what
    is generic. */
 int in_rust_library(const char *path) {
-    return !strncmp(path, "/rustc/", 7) || strstr(path, "/lib/rustlib/src/");
+    return starts_with(path, "/rustc/") || strstr(path, "/lib/rustlib/src/");
 }
 
 int in_system(const char *path) {
-    return !strncmp(path, "/usr/", 5) || !strncmp(path, "/lib", 4) || strstr(path, "/include/c++/")
+    return starts_with(path, "/usr/") || starts_with(path, "/lib") || strstr(path, "/include/c++/")
         || strstr(path, "/lib/gcc/")
         || in_rust_library(path);
 }
@@ -28,7 +28,7 @@ static char *normal_path(const char *path) {
     char *normal = zeroed(strlen(path) + 2, 1), *end = normal;
     while (*path) {
         size_t length = strcspn(path, "/");
-        if (length == 2 && !strncmp(path, "..", 2)) {
+        if (length == 2 && starts_with(path, "..")) {
             while (end > normal && *--end != '/') {}
         } else if (length && !(length == 1 && *path == '.')) {
             *end++ = '/';

@@ -547,12 +547,12 @@ void say_crash(void) {
 
 void end_stacks(void) {
     if (!with_stacks) return;
-    for (u32 t = 0; t < thread_bound(); t = next_thread(t)) keep_stack(threads[t].created_at);
+    EACH_THREAD(t) keep_stack(threads[t].created_at);
     for (u32 b = 1; b <= block_count(); b++)
         if (block_of(b)->named) keep_stack(block_of(b)->node);
     for (u64 k = 1; k <= nodes.numbers.count; k++)
         if (node_at(k)->used) write_stack(k);
-    for (u32 t = 0; t < thread_bound(); t = next_thread(t))
+    EACH_THREAD(t)
         if (threads[t].created_at) fprintf(file, "thread %s\t%u\n", thread_name(t), threads[t].created_at);
     for (u32 b = 1; b <= block_count(); b++)
         if (block_of(b)->named && block_of(b)->node) fprintf(file, "block %u %u\n", b, block_of(b)->node);
@@ -565,5 +565,5 @@ void end_stacks(void) {
                                                "compiled without hooks of functions\n");
     rewind(file);
     fprintf(file, STACKS_BEGIN, written);
-    if (fflush(file) || ferror(file) || fclose(file)) cannot_write(path);
+    end_file(file, path);
 }

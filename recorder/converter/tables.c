@@ -15,7 +15,18 @@ void die(const char *format, ...) {
     exit(FAILED);
 }
 
+void cannot_read(const char *path) { die("cannot read %s: %s", path, strerror(errno)); }
 void cannot_write(const char *path) { die("cannot write to %s: %s", path, strerror(errno)); }
+
+void end_file(FILE *file, const char *path) {
+    if (fflush(file) || ferror(file) || fclose(file)) cannot_write(path);
+}
+
+char *cleaned(char *text) {
+    for (char *p = text; *p; p++)
+        if (*p == '|' || (unsigned char)*p < ' ') *p = '!';
+    return text;
+}
 
 /* A long array is in large pages where the system has them: fewer faults, and fewer pages to look up. The
    whole mapping is, with the allocator's words before the array; else it could not be moved when it grows. */

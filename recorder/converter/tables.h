@@ -10,6 +10,7 @@
 #include <string.h>
 #include <sys/mman.h>
 #include <sys/stat.h>
+#include "../record.h"
 
 typedef uint64_t u64;
 typedef uint32_t u32;
@@ -20,12 +21,14 @@ typedef struct { u64 a, b; u32 value; } map_entry;
 typedef struct { map_entry *entries; u64 count, capacity; } map;
 enum { NOT_WHOLE = 1, FAILED, BAD_WORDS };                   /* statuses; 1: the trace is a part of the run */
 void die(const char *format, ...) __attribute__((noreturn, format(printf, 1, 2)));
+void cannot_read(const char *path) __attribute__((noreturn));
 void cannot_write(const char *path) __attribute__((noreturn));
+void end_file(FILE *file, const char *path);                 /* what was written is there, or it dies */
+char *cleaned(char *text);             /* what would end a field or a line is another sign now */
+static inline int starts_with(const char *text, const char *with) { return !strncmp(text, with, strlen(with)); }
 void *zeroed(size_t count, size_t size);
 char *copied(const char *text);
 void *mapped(size_t count, size_t size);                     /* what isn't used of it takes addresses alone */
-/* of a function that is called rarely: apart from its callers, whose usual way is short then */
-#define RARE __attribute__((noinline))
 void *grown(void *array, u64 count, u64 *capacity, size_t size);
 /* An array that grows. PUSH points to a new entry at its end, which has to be written. */
 #define VECTOR(type) struct { type *at; u64 count, capacity; }
@@ -54,6 +57,9 @@ void *grown(void *array, u64 count, u64 *capacity, size_t size);
 #define INTERN(table, a, b) \
     intern(&(table).numbers, (a), (b), &(table).at, &(table).capacity, sizeof *(table).at)
 #define ENTRY(table, a, b) ({ const u32 its_number = INTERN(table, a, b); &(table).at[its_number - 1]; })
+/* The address of the entry of a key that is there; or null. */
+#define FOUND(table, a, b) \
+    ({ const u32 its_number = map_find(&(table).numbers, a, b); its_number ? &(table).at[its_number - 1] : 0; })
 u32 intern(map *numbers, u64 a, u64 b, void *array, u64 *capacity, size_t size);
 u32 map_find(const map *m, u64 a, u64 b);                    /* 0: it isn't there */
 u32 map_number(map *m, u64 a, u64 b);

@@ -38,7 +38,7 @@ static const char *behind_only(const char *line, const char *word) {
 static int read_name(const char *at, const char *ends, char *name) {
     size_t length = 0;
     at += strspn(at, " \t(");
-    if (!strncmp(at, "struct ", 7)) at += 7;
+    if (starts_with(at, "struct ")) at += 7;
     for (; is_of_word(*at) || (at[0] == ':' && at[1] == ':'); at++) {
         if (*at != ':') name[length++] = *at;
         else length = 0, at++;

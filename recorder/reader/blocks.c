@@ -64,12 +64,12 @@ int add_qualified_name(const Dwarf_Die *of, text *to) {
 }
 
 static int is_of_cxx_library(const char *type) {
-    return !strncmp(type, "std::", 5) || !strncmp(type, "__gnu_cxx::", 11);
+    return starts_with(type, "std::") || starts_with(type, "__gnu_cxx::");
 }
 
 /* Does the C++ library keep another type's object in this one? */
 static int is_buffer(const char *name) {
-    return name && (!strncmp(name, "__aligned_membuf<", 17) || !strncmp(name, "__aligned_buffer<", 17));
+    return name && (starts_with(name, "__aligned_membuf<") || starts_with(name, "__aligned_buffer<"));
 }
 
 /* Are several members of this type? Then one of it isn't told by the type alone. */
@@ -130,7 +130,7 @@ static int is_of_bits(debug *d, u64 pc) {
     debug_frame frames[MOST_INLINED];
     int count = frames_at(d, pc, frames, MOST_INLINED), found = 0;
     for (int k = 0; k < count; k++) {
-        found |= frames[k].function && !strncmp(frames[k].function, own, strlen(own));
+        found |= frames[k].function && starts_with(frames[k].function, own);
         free(frames[k].function);
     }
     return found;
@@ -157,7 +157,7 @@ static named_part find_part(Dwarf_Die type, u64 offset, u64 length) {
     char *rest = to.at;
     to.rest = offset;
     add_members(type, offset, length, &to);
-    if (to.rest) snprintf(to.at, to.room, "+%lu", to.rest);
+    add_rest(&to);
     found.rest = copied(rest);
     found.is_other = to.is_other;
     return found;

@@ -11,7 +11,7 @@ static Elf_Scn *section_of(Elf *elf, const char *name) {
         GElf_Shdr header;
         const char *found = gelf_getshdr(s, &header)
             && header.sh_type != SHT_NOBITS ? elf_strptr(elf, names, header.sh_name) : 0;
-        if (found && (!strcmp(found, name) || (!strncmp(found, ".z", 2) && !strcmp(found + 2, name + 1))))
+        if (found && (!strcmp(found, name) || (starts_with(found, ".z") && !strcmp(found + 2, name + 1))))
             return s;
     }
     return 0;

@@ -117,6 +117,7 @@ int is_structure(Dwarf_Die *type);
    enum or pointer. */
 typedef struct { char *at; size_t room; u64 rest; int is_other; } text;
 void add_name(text *to, const char *before, const char *name, u64 rest);
+void add_rest(text *to);               /* "+4", of what isn't told by names */
 void add_members(Dwarf_Die type, u64 offset, u64 length, text *to);
 /* Adds what lies at an offset of the variable that is at an address, in so many bytes: ".head",
    "[3]", "+4"; returns whether that is `is_other`. */

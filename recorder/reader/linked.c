@@ -25,7 +25,7 @@ static int tell_symbols(Elf *elf, GElf_Word table, const char *what) {
         const char *name = elf_strptr(elf, header.sh_link, s.st_name);
         if (!name || !*name) continue;
         if (what && (table == SHT_SYMTAB ? is_file : is_here)) tell(what, name);
-        has_hooks |= !is_here && !strncmp(name, "__tsan_", 7) && (!is_program || strcmp(name, "__tsan_init"));
+        has_hooks |= !is_here && starts_with(name, "__tsan_") && (!is_program || strcmp(name, "__tsan_init"));
     }
     return has_hooks;
 }
@@ -68,7 +68,7 @@ static void tell_compiled(debug *d) {
         Dwarf_Attribute a;
         const char *by = dwarf_formstring(dwarf_attr(&u->whole, DW_AT_producer, &a));
         const char *name = dwarf_formstring(dwarf_attr(&u->whole, DW_AT_name, &a));
-        int has_flags = by && !strncmp(by, "GNU ", 4) && strstr(by, " -m") && !has_any(by, others);
+        int has_flags = by && starts_with(by, "GNU ") && strstr(by, " -m") && !has_any(by, others);
         if (has_flags && name && !has_any(name, own))
             tell(asks_for_hooks(by) ? "compiled with hooks" : "compiled without hooks", basename(name));
     }

@@ -30,14 +30,14 @@ static int note_variable(void *to, Dwarf_Die *e) {
 
 /* Those in functions are read when one isn't among the others. */
 Dwarf_Die *variable_at(debug *d, u64 address) {
-    u32 number = 0;
+    Dwarf_Die *found = 0;
     read_units(d);
-    for (int many = 1; !(number = map_find(&d->variables.numbers, address, 0)) && many <= 2; many++) {
+    for (int many = 1; !(found = FOUND(d->variables, address, 0)) && many <= 2; many++) {
         if (d->has_variables >= many) continue;
         d->has_variables = many;
         EACH(u, d->units) each_entry(&u->whole, note_variable, d);
     }
-    return number ? &d->variables.at[number - 1] : 0;
+    return found;
 }
 
 /* ---- what lies at an offset of a type ---- */
@@ -154,8 +154,7 @@ int place_of_bits(Dwarf_Die *member, u64 *place, u64 *length) {
 
 void add_name(text *to, const char *before, const char *name, u64 rest) {
     int count = snprintf(to->at, to->room, "%s%.200s", before, name);
-    for (char *p = to->at; *p; p++)
-        if (*p == '|' || (unsigned char)*p < ' ') *p = '!';
+    cleaned(to->at);
     count = (size_t)count < to->room ? count : (int)to->room - 1;
     to->at += count;
     to->room -= count;
@@ -217,6 +216,8 @@ static int is_other(Dwarf_Die *type) {
         && (encoding == DW_ATE_float || encoding == DW_ATE_complex_float || encoding == DW_ATE_decimal_float);
 }
 
+void add_rest(text *to) { if (to->rest) snprintf(to->at, to->room, "+%lu", to->rest); }
+
 void add_members(Dwarf_Die type, u64 offset, u64 length, text *to) {
     for (int steps = 0; steps < MOST_STEPS && plain_type(&type); steps++) {
         Dwarf_Die member;
@@ -247,7 +248,7 @@ int add_member(debug *d, u64 address, u64 offset, u64 length, char *buffer, size
     text to = {buffer, size, offset, 0};
     Dwarf_Die *variable = variable_at(d, address), type;
     if (variable && !d->is_alien && type_of(variable, &type)) add_members(type, offset, length, &to);
-    if (to.rest) snprintf(to.at, to.room, "+%lu", to.rest);
+    add_rest(&to);
     return to.is_other;
 }
 
@@ -321,6 +322,6 @@ const char *add_local(debug *d, place_of_local at, char *buffer, size_t size) {
     text to = {buffer, size, s.offset, 0};
     add_name(&to, "", s.name, s.offset);
     add_members(s.type, s.offset, at.length, &to);
-    if (to.rest) snprintf(to.at, to.room, "+%lu", to.rest);
+    add_rest(&to);
     return s.inlined;
 }

@@ -7,7 +7,7 @@ char *demangled(const char *name) {
     typedef char *demangle(const char *name, char *buffer, size_t *length, int *status);
     static demangle *of_library;
     static int is_asked;
-    int status, is_mangled = !strncmp(name, "_Z", 2);
+    int status, is_mangled = starts_with(name, "_Z");
     if (is_mangled && !is_asked++) {
         void *library = dlopen("libstdc++.so.6", RTLD_NOW);
         of_library = library ? (demangle *)dlsym(library, "__cxa_demangle") : 0;
@@ -21,9 +21,9 @@ char *demangled(const char *name) {
 int is_of_other(const char *linked) {
     enum { HASH = 20 };
     size_t length = strlen(linked);
-    int is_older = length > HASH && !strncmp(linked, "_ZN", 3) && !strncmp(linked + length - HASH, "17h", 3);
-    int is_of_d = !strncmp(linked, "_D", 2) && isdigit((unsigned char)linked[2]);
-    return is_older || is_of_d || !strncmp(linked, "_R", 2) || strstr(linked, "_MOD_")
+    int is_older = length > HASH && starts_with(linked, "_ZN") && starts_with(linked + length - HASH, "17h");
+    int is_of_d = starts_with(linked, "_D") && isdigit((unsigned char)linked[2]);
+    return is_older || is_of_d || starts_with(linked, "_R") || strstr(linked, "_MOD_")
         || strstr(linked, "B5cxx11");
 }
 

@@ -37,7 +37,7 @@ int hold_range(enum operation operation, uint64_t address, uint64_t size, uint64
     return is_held;
 }
 
-__attribute__((noinline)) void note_access(enum operation operation, uint64_t address, uint64_t size,
+RARE void note_access(enum operation operation, uint64_t address, uint64_t size,
                                            uint64_t caller) {
     thread *t = self;
     int is_read = operation == OP_READ, is_in_copy = is_read && t && ends_copy(t, size, caller);

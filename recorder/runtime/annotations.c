@@ -150,7 +150,7 @@ PUBLIC int __sanitizer_acquire_crash_state(void) {           /* it is the first 
 }
 
 /* ---- coverage (-fsanitize-coverage), of which nothing is written ---- */
-PUBLIC __thread uint64_t __sancov_lowest_stack __attribute__((tls_model("initial-exec")));
+PUBLIC __thread uint64_t __sancov_lowest_stack;
 
 /* ---- the barrier of ThreadSanitizer's own tests: threads meet there, and it orders none of them ---- */
 /* of how many they are; above is how many came. Newer tests have no more than these four bytes */

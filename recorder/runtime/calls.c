@@ -176,7 +176,7 @@ uint64_t place_of_frame(const thread *t, uint32_t depth) {
 }
 
 /* ---- entering and leaving functions ---- */
-static __attribute__((noinline)) void enter_elsewhere(thread *t, uint32_t depth, uint64_t caller,
+static RARE void enter_elsewhere(thread *t, uint32_t depth, uint64_t caller,
                                                       uint64_t function, uint64_t extent) {
     context new = {.caller = caller, .function = function, .way = way_to(t, depth, caller), .extent = extent};
     enter_context(&t->frames[depth], context_at(t, depth), new);

@@ -453,7 +453,7 @@ static uint64_t *new_word(cell *c, cell_use use) {
     return is_used(found) ? found.word : number ? add_key(c, found, number, 0) : 0;
 }
 
-static inline __attribute__((always_inline))
+ALWAYS_INLINE
 int words_in_cells(uint32_t serial, cell_use use, uint64_t address, uint64_t end, uint64_t **words,
                    uint64_t *word_in(cell *, cell_use)) {
     int count = 0;

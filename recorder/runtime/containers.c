@@ -10,7 +10,7 @@
 typedef struct tree_node { int color; struct tree_node *parent, *left, *right; } tree_node;
 typedef struct list_node { struct list_node *next, *previous; } list_node;
 
-static __attribute__((noinline)) void note_link(enum operation operation, const void *link, uint64_t caller) {
+static RARE void note_link(enum operation operation, const void *link, uint64_t caller) {
     hook(operation, (uint64_t)link, sizeof(void *), caller);
 }
 #define READS_LINK(link) note_link(OP_READ, &(link), caller)
@@ -97,7 +97,7 @@ typedef struct { char *characters; uint64_t length, capacity; } string; /* a sho
 typedef union { uint64_t n; const char *text; string *s; } argument;
 typedef struct { uint64_t caller, added; string was; } string_call;
 #define ALL (~0ull)
-#define APART static __attribute__((noinline))      /* two hundred calls are made of them */
+#define APART static RARE      /* two hundred calls are made of them */
 
 static int is_short(const string *s) { return s->characters == (char *)&s->capacity; }
 static uint64_t capacity_of(const string *s) {

@@ -34,12 +34,15 @@ static int is_file(int descriptor, identity which) {
 /* Messages go where they went at first: a program may have closed that, and have a file of its own there. */
 void begin_messages(void) { of_messages = identity_of(2); }
 void tell(const char *format, ...) {
-    char text[PATH_MAX + 300];
+    char text[PATH_MAX + 300] = "shb recorder: ";
+    size_t length = strlen(text);
     va_list more;
     va_start(more, format);
-    vsnprintf(text, sizeof text, format, more);
+    vsnprintf(text + length, sizeof text - length - 1, format, more);
     va_end(more);
-    if (is_file(2, of_messages)) syscall(SYS_write, 2, text, strlen(text));
+    length = strlen(text);
+    text[length] = '\n';
+    if (is_file(2, of_messages)) syscall(SYS_write, 2, text, length + 1);
 }
 
 /* ---- the number ---- */
@@ -222,7 +225,7 @@ static void number_path(uint64_t segment) {
 void drop_segment(uint64_t segment) { syscall(SYS_unlink, path_of(segment)); }
 
 int refuse(const char *which) {
-    tell("shb recorder: cannot write %s: %s; the program runs unrecorded\n", which, strerror(errno));
+    tell("cannot write %s: %s; the program runs unrecorded", which, strerror(errno));
     return 0;
 }
 
@@ -240,8 +243,8 @@ static void tell_what_is_replaced(const char *command) {
         || strncmp(text, RECORD_MAGIC "command ", strlen(RECORD_MAGIC "command "))) return;
     if (!strncmp(line, command, strlen(command))) return;
     line[strcspn(line, "\n")] = 0;
-    tell("shb recorder: in %s the record of another command is replaced (%s); %%p in the path gives each "
-            "process a record of its own\n", path, line + strlen("command "));
+    tell("in %s the record of another command is replaced (%s); %%p in the path gives each "
+            "process a record of its own", path, line + strlen("command "));
 }
 
 /* Opens the file and locks it: cut by a second process it is a SIGBUS in the first.  Says why it can't. */
@@ -250,12 +253,12 @@ int open_file(const char *command, uint64_t first_bytes, uint64_t segment) {
     if (!keep(RECORD, O_CREAT)) return refuse(path);
     int file = kept[RECORD].number;
     if (flock(file, LOCK_EX | LOCK_NB) && errno == EWOULDBLOCK) {
-        tell("shb recorder: another process records to %s; the program runs unrecorded (%%p in the path "
-                "gives each process a record of its own)\n", path);
+        tell("another process records to %s; the program runs unrecorded (%%p in the path "
+                "gives each process a record of its own)", path);
         return 0;
     }
     if (is_foreign(file, ANY_RECORD)) {
-        tell("shb recorder: %s is no record, and isn't replaced by one; the program runs unrecorded\n", path);
+        tell("%s is no record, and isn't replaced by one; the program runs unrecorded", path);
         return 0;
     }
     if (!has_number()) tell_what_is_replaced(command);

@@ -22,7 +22,7 @@ static inline uint64_t word_now(const thread *t) {
    in between, it has that one's position. A plain read there isn't held back: a loop of these may wait for
    another thread (note_spin). */
 #define IS_PLAIN (-1)                  /* in the place of `repeats` */
-static inline __attribute__((always_inline))
+ALWAYS_INLINE
 int hold_quickly(thread *t, uint64_t *word, enum operation operation, uint64_t what, int repeats) {
     uint64_t new = word_now(t);
     int is_repeated = (only_reads(operation) || repeats > 0) && is_right_behind(*word, new);
@@ -56,7 +56,7 @@ static inline uint64_t *word_near(const thread *t, cell *c, enum operation opera
     return (c->owner == t->serial || is_of_readers) && is_same(cell_uses[slot], use) ? find_near(c, slot) : 0;
 }
 
-static inline __attribute__((always_inline))
+ALWAYS_INLINE
 void hook(enum operation operation, uint64_t address, uint64_t size, uint64_t caller) {
     thread *t = self;
     if (!may_be_quick(t, address, size)) return note_access(operation, address, size, caller);
@@ -78,7 +78,7 @@ void hook(enum operation operation, uint64_t address, uint64_t size, uint64_t ca
    kind alone, so the last of a kind stands for all (cells.c). A loop of those that leave the value as it is
    may wait for another thread, too. So after some of these one isn't quick, and the slice ends. */
 enum { MOST_REPEATS = 64 };
-static inline __attribute__((always_inline))
+ALWAYS_INLINE
 int begin_quick_atomic(enum operation operation, uint64_t address, uint64_t size, uint64_t size_and_order,
                        uint64_t caller) {
     thread *t = self;

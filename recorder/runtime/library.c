@@ -85,31 +85,36 @@ static void appends(uint64_t seen, const char *to, const char *from, size_t n) {
 /* ---- strings ---- */
 AFTER(size_t, strlen, (const char *s), (s), READS(s, r + 1))
 AFTER(size_t, strnlen, (const char *s, size_t n), (s, n), READS(s, least(r + 1, n)))
-AFTER(int, strcmp, (const char *s, const char *o), (s, o), compare(seen, s, o, SIZE_MAX, 0))
-AFTER(int, strncmp, (const char *s, const char *o, size_t n), (s, o, n), compare(seen, s, o, n, 0))
-AFTER(int, strcasecmp, (const char *s, const char *o), (s, o), compare(seen, s, o, SIZE_MAX, 1))
-AFTER(int, strncasecmp, (const char *s, const char *o, size_t n), (s, o, n), compare(seen, s, o, n, 1))
+#define COMPARES(name, without_case) \
+    AFTER(int, str##name, (const char *s, const char *o), (s, o), compare(seen, s, o, SIZE_MAX, without_case)) \
+    AFTER(int, strn##name, (const char *s, const char *o, size_t n), (s, o, n), \
+          compare(seen, s, o, n, without_case))
+COMPARES(cmp, 0)
+COMPARES(casecmp, 1)
 AFTER(char *, strchr, (const char *s, int c), (s, c), READS(s, to_match(s, r)))
 AFTER(char *, strchrnul, (const char *s, int c), (s, c), READS(s, r - s + 1))
 AFTER(char *, strrchr, (const char *s, int c), (s, c), READS(s, text(s)))
-AFTER(char *, strstr, (const char *s, const char *o), (s, o), READS(s, r ? up_to(s, r) + strlen(o) : text(s)),
-      READS(o, text(o)))
-AFTER(char *, strcasestr, (const char *s, const char *o), (s, o),
-      READS(s, r ? up_to(s, r) + strlen(o) : text(s)), READS(o, text(o)))
-AFTER(size_t, strspn, (const char *s, const char *set), (s, set), READS(s, r + 1), READS(set, text(set)))
-AFTER(size_t, strcspn, (const char *s, const char *set), (s, set), READS(s, r + 1), READS(set, text(set)))
-AFTER(char *, strpbrk, (const char *s, const char *set), (s, set), READS(s, to_match(s, r)),
-      READS(set, text(set)))
-COPIES(strcpy, (char *to, const char *from), (to, from), copies(seen, to, from))
-COPIES(stpcpy, (char *to, const char *from), (to, from), copies(seen, to, from))
-COPIES(strncpy, (char *to, const char *from, size_t n), (to, from, n), copies_within(seen, to, from, n))
-COPIES(stpncpy, (char *to, const char *from, size_t n), (to, from, n), copies_within(seen, to, from, n))
-COPIES(strcat, (char *to, const char *from), (to, from), appends(seen, to, from, SIZE_MAX))
-COPIES(strncat, (char *to, const char *from, size_t n), (to, from, n), appends(seen, to, from, n))
-AFTER(char *, strdup, (const char *s), (s), READS(s, text(s)), gets_text(seen, r))
-AFTER(char *, strndup, (const char *s, size_t n), (s, n), READS(s, text_within(s, n)), gets_text(seen, r))
-AFTER(char *, __strdup, (const char *s), (s), READS(s, text(s)), gets_text(seen, r))
-AFTER(char *, __strndup, (const char *s, size_t n), (s, n), READS(s, text_within(s, n)), gets_text(seen, r))
+/* so many bytes of the first text, and all of the second */
+#define LOOKS_FOR(type, name, bytes) \
+    AFTER(type, name, (const char *s, const char *o), (s, o), READS(s, bytes), READS(o, text(o)))
+LOOKS_FOR(char *, strstr, r ? up_to(s, r) + strlen(o) : text(s))
+LOOKS_FOR(char *, strcasestr, r ? up_to(s, r) + strlen(o) : text(s))
+LOOKS_FOR(size_t, strspn, r + 1)
+LOOKS_FOR(size_t, strcspn, r + 1)
+LOOKS_FOR(char *, strpbrk, to_match(s, r))
+#define COPIES_TEXT(name, does) COPIES(name, (char *to, const char *from), (to, from), does)
+#define COPIES_WITHIN(name, does) COPIES(name, (char *to, const char *from, size_t n), (to, from, n), does)
+COPIES_TEXT(strcpy, copies(seen, to, from))
+COPIES_TEXT(stpcpy, copies(seen, to, from))
+COPIES_TEXT(strcat, appends(seen, to, from, SIZE_MAX))
+COPIES_WITHIN(strncpy, copies_within(seen, to, from, n))
+COPIES_WITHIN(stpncpy, copies_within(seen, to, from, n))
+COPIES_WITHIN(strncat, appends(seen, to, from, n))
+#define DUPLICATES(form) \
+    AFTER(char *, form##dup, (const char *s), (s), READS(s, text(s)), gets_text(seen, r)) \
+    AFTER(char *, form##ndup, (const char *s, size_t n), (s, n), READS(s, text_within(s, n)), gets_text(seen, r))
+DUPLICATES(str)
+DUPLICATES(__str)
 AFTER(char *, strtok, (char *s, const char *set), (s, set), READS(set, text(set)); if (r) READS(r, text(r)))
 /* The byte after the piece becomes its end, unless it was the text's. */
 AFTER(char *, strtok_r, (char *s, const char *set, char **rest), (s, set, rest),
@@ -149,8 +154,9 @@ AFTER(wchar_t *, wcsncat, (wchar_t *to, const wchar_t *from, size_t n), (to, fro
       WRITES(to + before, wide(added + 1)))
 
 /* ---- memory ---- */
-AFTER(int, memcmp, (const void *p, const void *q, size_t n), (p, q, n), READS(p, n), READS(q, n))
-AFTER(int, bcmp, (const void *p, const void *q, size_t n), (p, q, n), READS(p, n), READS(q, n))
+#define COMPARES_BYTES(name) \
+    AFTER(int, name, (const void *p, const void *q, size_t n), (p, q, n), READS(p, n), READS(q, n))
+COMPARES_BYTES(memcmp) COMPARES_BYTES(bcmp)
 AFTER(void *, memchr, (const void *p, int c, size_t n), (p, c, n), READS(p, r ? up_to(p, r) + 1 : n))
 AFTER(void *, rawmemchr, (const void *p, int c), (p, c), READS(p, up_to(p, r) + 1))
 AFTER(void *, memrchr, (const void *p, int c, size_t n), (p, c, n), READS(r ? r : p, r ? n - up_to(p, r) : n))
@@ -206,8 +212,9 @@ static void got_line(uint64_t seen, FILE *f, char **line, size_t *room, ssize_t 
     WRITES(*line, length + 1);
 }
 AFTER(ssize_t, getline, (char **s, size_t *n, FILE *f), (s, n, f), got_line(seen, f, s, n, r))
-AFTER(ssize_t, getdelim, (char **s, size_t *n, int c, FILE *f), (s, n, c, f), got_line(seen, f, s, n, r))
-AFTER(ssize_t, __getdelim, (char **s, size_t *n, int c, FILE *f), (s, n, c, f), got_line(seen, f, s, n, r))
+#define GETS_LINE(name) \
+    AFTER(ssize_t, name, (char **s, size_t *n, int c, FILE *f), (s, n, c, f), got_line(seen, f, s, n, r))
+GETS_LINE(getdelim) GETS_LINE(__getdelim)
 AFTER(ssize_t, getrandom, (void *p, size_t n, unsigned flags), (p, n, flags), if (r > 0) WRITES(p, r))
 
 /* ---- clocks: what they show decides how long threads wait, so a replay shows the same; also to libraries,

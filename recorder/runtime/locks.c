@@ -7,14 +7,8 @@
 
 /* BEGINS: makes an object; while there are threads that is a write of it, too. */
 #define BEGINS(name, operation, size) \
-    ORDERS(int, name) { \
-        thread *t = enter(MAY_YIELD); \
-        if (t && others && !tells_its_own_order(CALLER)) put(t, OP_DESTROY, object, 0, CALLER); \
-        if (t) put(t, operation, object, size, CALLER); \
-        int r = CALLED(name); \
-        if (t) leave(t); \
-        return r; \
-    }
+    IN_TURN(name, if (t && others && !tells_its_own_order(CALLER)) put(t, OP_DESTROY, object, 0, CALLER); \
+            if (t) put(t, operation, object, size, CALLER))
 /* ENDS: recorded before it; it may wait for those who still use the object. */
 #define ENDS(name) \
     ORDERS(word, name) { \

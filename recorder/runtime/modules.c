@@ -149,12 +149,10 @@ void *library_symbol(const char *name) {
 void *find_forwarded(forwarded *which) {
     which->function = library_symbol(which->name);
     if (which->function) return which->function;
-    tell("shb recorder: no library has %s\n", which->name);
+    tell("no library has %s", which->name);
     _exit(127);                        /* as the loader does */
 }
 
-extern forwarded __start_forwarded[] __attribute__((visibility("hidden"))),
-    __stop_forwarded[] __attribute__((visibility("hidden")));
 __attribute__((constructor(101))) static void find_all_forwarded(void) {
     for (forwarded *f = __start_forwarded; f < __stop_forwarded; f++) function_if_any(f);
 }

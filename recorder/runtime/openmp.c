@@ -128,15 +128,8 @@ BARRIER(GOMP_single_copy_end)
 
 /* Who comes first to a single section, or gets a loop's next part: none of these waits, and a replay has it
    so again. */
-#define BY_TURN(name) \
-    ORDERS(word, name) { \
-        thread *t = enter(MAY_YIELD); \
-        word r = CALLED(name); \
-        if (t) leave(t); \
-        return r; \
-    }
-#define PARTS(loop) BY_TURN(GOMP_##loop##_next)
-BY_TURN(GOMP_single_start)
+#define PARTS(loop) IN_TURN(GOMP_##loop##_next, )
+IN_TURN(GOMP_single_start, )
 PARTS(loop_dynamic) PARTS(loop_guided) PARTS(loop_runtime) PARTS(sections)
 PARTS(loop_nonmonotonic_dynamic) PARTS(loop_nonmonotonic_guided) PARTS(loop_nonmonotonic_runtime)
 PARTS(loop_maybe_nonmonotonic_runtime)
@@ -250,8 +243,8 @@ WAITS_FOR_TASKS(GOMP_taskgroup_end, now->team->tasks)
 /* ---- what isn't seen: each is said once ---- */
 static void tell_of(_Atomic int *told, const char *what) {
     if (recording && !atomic_exchange(told, 1))
-        tell("shb recorder: the program uses OpenMP's %s, of which not all is recorded: races may be false, "
-             "or missed\n", what);
+        tell("the program uses OpenMP's %s, of which not all is recorded: races may be false, "
+             "or missed", what);
 }
 
 #define UNSEEN(what, name) \

@@ -56,16 +56,17 @@
 /* Taken by trying again and again, where the real call would be seen besides, or never sleeps. */
 #define TAKES_BY_TRYING(name, operation, try, ...) \
     TAKES_BY(int, name, operation, ({ while (!(try)) REAL(syscall)(__VA_ARGS__); 0; }), r, !(try), 1)
-/* Recorded before it; never waits. */
-#define GIVES_BY(name, operation, given, before) \
+/* Recorded before it, where there is a thread t; never waits. */
+#define IN_TURN(name, before) \
     ORDERS(word, name) { \
         thread *t = enter(MAY_YIELD); \
-        if (t) put(t, operation, given, 0, CALLER); \
         before; \
         word r = CALLED(name); \
         if (t) leave(t); \
         return r; \
     }
+#define GIVES_BY(name, operation, given, before) \
+    IN_TURN(name, if (t) put(t, operation, given, 0, CALLER); before)
 #define GIVES(name, operation) GIVES_BY(name, operation, object, )
 
 /* A wait without the lock that was given up for it; after it, cancelled or not, that is recorded as taken. */

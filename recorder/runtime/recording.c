@@ -60,8 +60,8 @@ static void tell_half(uint64_t have, uint64_t space) {
     uint64_t used = have * sizeof *records,
         left = least(most_records * sizeof *records - used, space - reserve);
     if (used < left || atomic_exchange(&is_half_told, 1)) return;
-    tell("shb recorder: half of the room for the record is used: it has %lu MB, and ends after %lu MB more "
-         "(SHB_RECORDS, disk space)\n",
+    tell("half of the room for the record is used: it has %lu MB, and ends after %lu MB more "
+         "(SHB_RECORDS, disk space)",
          used >> 20, left >> 20);
 }
 
@@ -193,7 +193,7 @@ static int has_room(uint64_t count) {
     return end <= most_records && end <= atomic_load_explicit(&room, memory_order_relaxed);
 }
 
-static __attribute__((noinline)) int grow_for(uint64_t count) {
+static RARE int grow_for(uint64_t count) {
     while (recording && !has_room(count)) {
         if (written + count > most_records) stop_recording("SHB_RECORDS is reached");
         else grow();
@@ -369,8 +369,8 @@ static _Atomic int has_strangers;
 
 void note_stranger(void) {
     if (!recording || atomic_exchange(&has_strangers, 1)) return;
-    tell("shb recorder: the program has threads whose begin isn't seen, as the C library calls functions in "
-         "(SIGEV_THREAD), or by a pthread_create that was looked up in it (dlsym): their races are missed\n");
+    tell("the program has threads whose begin isn't seen, as the C library calls functions in "
+         "(SIGEV_THREAD), or by a pthread_create that was looked up in it (dlsym): their races are missed");
 }
 
 /* A process below this one says so by the header's last byte, also when this one has ended. */
@@ -391,13 +391,13 @@ const char *own_end(void) {
 void stop_recording(const char *reason) {
     if (!end_turns()) return;
     note_end(reason);
-    tell("shb recorder: %s; the recording ends here, the program goes on\n", reason);
+    tell("%s; the recording ends here, the program goes on", reason);
 }
 
 static int can_look_at_threads(void) { /* without it no turn could be taken over */
     char text[512];
     if (read_task_file(syscall(SYS_gettid), "stat", text, sizeof text) > 0) return 1;
-    tell("shb recorder: cannot read /proc/self/task/*/stat; the program runs unrecorded\n");
+    tell("cannot read /proc/self/task/*/stat; the program runs unrecorded");
     return 0;
 }
 
@@ -495,7 +495,7 @@ static int begin_segment(void) {
     return done;
 }
 
-__attribute__((noinline)) void next_segment(thread *t) {
+RARE void next_segment(thread *t) {
     int saved = errno, done = 1;
     if (begin_work(t) && is_segment_full()) done = begin_segment();
     t->works = 0;

@@ -114,7 +114,7 @@ void end_replay(const char *why) {
     note_number("replayed %lu\n", done_turns);
     is_replaying = 0;
     if (done_turns < due_turns)
-        tell("shb recorder: the replay is left after %lu of %lu turns, for %s\n", done_turns, due_turns, why);
+        tell("the replay is left after %lu of %lu turns, for %s", done_turns, due_turns, why);
 }
 
 static void move_on(void) {
@@ -215,8 +215,8 @@ void begin_replay(const char *path) {
     const char *list = mapped(path, &bytes);
     int is_list = list && memchr(list, 0, HEADER) && !strncmp(list, ANY_TURNS, strlen(ANY_TURNS));
     if (!is_list || strncmp(list, TURNS_MAGIC "command ", strlen(TURNS_MAGIC "command "))) {
-        tell(is_list ? "shb recorder: %s is not followed: another version of the recorder wrote it\n"
-                     : "shb recorder: %s is no list of turns (RUN.turns)\n", path);
+        tell(is_list ? "%s is not followed: another version of the recorder wrote it"
+                     : "%s is no list of turns (RUN.turns)", path);
         return;
     }
     due = (const uint64_t *)(list + HEADER);

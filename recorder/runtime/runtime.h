@@ -127,7 +127,7 @@ static inline uint64_t steps_in_turns(const thread *t) {
 
 /* turn.c: who runs.  Each hook is enter .. leave; enter returns no thread if nothing is to be recorded. */
 enum yields { NEVER_YIELD, YIELDS_BY_LIST, MAY_YIELD };      /* by the list alone: in a replay */
-extern __thread thread *self __attribute__((tls_model("initial-exec")));
+extern __thread thread *self;
 extern volatile int recording;         /* in a process made by fork it is 0 at once; `was_recording` isn't */
 extern int was_recording;
 void begin_turns(int slice, uint64_t seed);                  /* with 0 slices of many lengths */
@@ -217,7 +217,7 @@ static inline uint32_t recordable_depth(const thread *t) {
 enum kept_file { RECORD, TURNS, PROC };
 enum { COMMAND_BYTES = 1024 };         /* of the header's line with the command, with its end */
 void begin_messages(void);
-/* on standard error, if it still is that */
+/* a line on standard error, if it still is that */
 void tell(const char *format, ...) __attribute__((format(printf, 1, 2)));
 int is_kept(int descriptor);           /* is it the recorder's own? */
 unsigned next_kept(unsigned from);     /* the lowest such number from there on, or ~0u */
@@ -294,6 +294,7 @@ void note_modules(void);
 /* A function that one here stands for. All are looked up when the program begins, for a handler of a signal
    may not look for a name. */
 typedef struct { const char *name; void *function; } forwarded;
+extern forwarded __start_forwarded[], __stop_forwarded[];
 /* of one that wasn't there then; the program ends where no library has it */
 void *find_forwarded(forwarded *which);
 static inline void *function_if_any(forwarded *f) {
@@ -332,6 +333,7 @@ extern int uses_whole_blocks;          /* may code with hooks ask how large a bl
 
 /* signals.c */
 void watch_crashes(void);
+extern const char __start_atomics[], __stop_atomics[];       /* the code of atomic operations */
 
 /* descriptors.c */
 void unlock_keys(void);                /* in a process made by fork: another thread may have had their lock */

@@ -12,7 +12,7 @@ static int from_the_code_itself(int signal) {
 }
 
 /* It is called, as it were, from the instruction that it comes before. */
-static __attribute__((noinline)) void call_in_frame(thread *t, int signal, siginfo_t *info, void *context) {
+static RARE void call_in_frame(thread *t, int signal, siginfo_t *info, void *context) {
     uint64_t next = ((ucontext_t *)context)->uc_mcontext.gregs[REG_RIP];
     interrupted before = push_frame(t, next + 1, (uint64_t)call_in_frame + 1);
     if (others) note(OP_WAIT, &handlers[signal], next + 1);
@@ -38,8 +38,6 @@ static void handle(int signal, siginfo_t *info, void *context) {
 }
 
 /* ---- a signal that ends the program where its code made it: that is recorded, and it comes again ---- */
-extern const char __start_atomics[] __attribute__((visibility("hidden"))),
-    __stop_atomics[] __attribute__((visibility("hidden")));
 static void crash(int signal, siginfo_t *info, void *context) {
     uint64_t next = ((ucontext_t *)context)->uc_mcontext.gregs[REG_RIP] + 1;
     int has_address = info->si_code > 0 && info->si_code != SI_KERNEL

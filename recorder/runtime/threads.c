@@ -22,7 +22,7 @@ static uint64_t setting(const char *name, uint64_t least, uint64_t most, uint64_
     uint64_t n = value ? strtoull(value, &end, 10) : 0;
     if (value && *value >= '0' && *value <= '9' && !*end && !errno && n >= least && n <= most) return n;
     if (value)
-        tell("shb recorder: %s takes a number from %lu to %lu, not `%s`, and is ignored\n", name, least, most,
+        tell("%s takes a number from %lu to %lu, not `%s`, and is ignored", name, least, most,
              value);
     return otherwise;
 }
@@ -120,8 +120,8 @@ WRAPS(int, clone, (int (*function)(void *), void *stack, int flags, void *argume
 /* It starts threads and nobody records them: it says so, once. */
 static void tell_of_child(void) {
     if (is_unrecorded_child)
-        tell("shb recorder: a process made by fork starts threads and runs unrecorded (%%p in SHB_RECORD "
-             "gives each process a record of its own)\n");
+        tell("a process made by fork starts threads and runs unrecorded (%%p in SHB_RECORD "
+             "gives each process a record of its own)");
     is_unrecorded_child = 0;
     lose_record();
 }
@@ -184,8 +184,8 @@ __attribute__((constructor(102))) static void begin(void) {  /* after look-ups, 
     note_modules();
     if (is_behind_the_c_library()) {
         note_end("the C library comes before the recorder's, so no thread is seen");
-        tell("shb recorder: calls of pthread_create go to the C library, which the program is linked with "
-             "before -ltsan (or that comes by dlopen): the program runs unrecorded\n");
+        tell("calls of pthread_create go to the C library, which the program is linked with "
+             "before -ltsan (or that comes by dlopen): the program runs unrecorded");
         return;
     }
     thread *t = new_thread();

@@ -67,7 +67,7 @@
 #define MOST_IN_VAIN 1000              /* of such looks, where a wait is so many: */
 #define LOOKS_OF_A_WAIT 16
 
-__thread thread *self __attribute__((tls_model("initial-exec")));
+__thread thread *self;
 /* In a page of its own: a process made by fork begins with an empty one, so handlers of fork that come before
    ours write nothing into the parent's record. */
 enum { PAGE = 4096 };
@@ -281,7 +281,7 @@ static int is_another_coming(const thread *t) {
 
 /* Where slices are short one that was woken is waited for: to come takes it longer than many of them. */
 static int in_vain;
-static __attribute__((noinline)) int wait_for_another(thread *t) {
+static RARE int wait_for_another(thread *t) {
     int saved = errno, is_coming;
     if (HOLDER(atomic_load(&turn)) != NAME(t)) return 0;
     t->quantum = draw_slice();
@@ -544,7 +544,7 @@ static void let_be_quick(thread *t) {
     t->limit = left ? t->steps + left : 0;
 }
 
-static __attribute__((noinline)) void end_slice(thread *t) {
+static RARE void end_slice(thread *t) {
     if (hand_over(t, AT_SLICE_END)) take_or_wait(t, 1);
 }
 
