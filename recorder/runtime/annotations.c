@@ -2,7 +2,6 @@
    for it is linked and runs. What orders threads is recorded; what asks for silence (benign races, accesses
    to be ignored) is not followed (forward.S). And what it may ask of that library, by the same names. */
 #include "runtime.h"
-#include <linux/futex.h>
 #include <malloc.h>
 #include <ucontext.h>
 

@@ -422,14 +422,16 @@ static void use_whole_page(cell_page *page, uint32_t serial, uint16_t number, ui
     page->is_whole = 1;
 }
 
+/* For each piece of a range, from its address to where it stops, that lies in one page. */
 static uint64_t end_in_page(uint64_t address, uint64_t end) {
     uint64_t page_end = (address / CELL_PAGE + 1) * CELL_PAGE;
     return page_end < end ? page_end : end;
 }
+#define EACH_PAGE(stop, address, end) \
+    for (uint64_t stop; address < end && (stop = end_in_page(address, end)); address = stop)
 
 static void use_range(uint32_t serial, uint16_t number, uint64_t address, uint64_t end) {
-    for (uint64_t stop; address < end; address = stop) {
-        stop = end_in_page(address, end);
+    EACH_PAGE(stop, address, end) {
         cell_page *page = page_at(address, 1);
         int is_whole = page && stop - address == CELL_PAGE;
         cell *c = is_whole ? 0 : cell_in(page, address);
@@ -498,8 +500,7 @@ static void free_cells(cell_page *page, uint32_t serial, uint16_t number, uint64
 }
 
 static void free_range(uint32_t serial, uint16_t number, uint64_t address, uint64_t end) {
-    for (uint64_t stop; address < end; address = stop) {
-        stop = end_in_page(address, end);
+    EACH_PAGE(stop, address, end) {
         cell_page *page = page_at(address, 1);
         if (!page || (page->is_whole && page->owner == serial)) continue;
         if (!page->is_whole || *cells_at(address) || make_cells(page, address))
@@ -526,10 +527,10 @@ static void clear_cells(cell_page *page, uint64_t address, uint64_t end) {
 
 /* New variables are there: what was held back of the old ones is over. */
 static void renew(uint64_t address, uint64_t end) {
-    uint64_t at = (address + GRAIN - 1) / GRAIN * GRAIN, stop;
+    uint64_t at = (address + GRAIN - 1) / GRAIN * GRAIN;
     if (end - address >= MAX_BLOCK) return;
-    for (end = end / GRAIN * GRAIN; at < end; at = stop) {
-        stop = end_in_page(at, end);
+    end = end / GRAIN * GRAIN;
+    EACH_PAGE(stop, at, end) {
         cell_page *page = page_at(at, 0);
         if (!page) continue;
         if (page->is_whole && !*cells_at(at) && stop - at < CELL_PAGE && !make_cells(page, at)) continue;

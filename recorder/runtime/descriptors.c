@@ -1,12 +1,10 @@
 /* Descriptors: the order that they give, and the recorder's own, which the program never meets. */
 #include "library.h"
-#include <fcntl.h>
 #include <netinet/in.h>
 #include <poll.h>
 #include <sys/epoll.h>
 #include <sys/eventfd.h>
 #include <sys/socket.h>
-#include <sys/stat.h>
 #include <sys/uio.h>
 #include <sys/un.h>
 

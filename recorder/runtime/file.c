@@ -2,10 +2,7 @@
    programs aren't given, and are spared where they close all that they have; what reached one nevertheless
    is seen before each use, for then the number may be that of a file of the program.  Faults leave errno. */
 #include "runtime.h"
-#include <fcntl.h>
 #include <sys/file.h>
-#include <sys/resource.h>
-#include <sys/stat.h>
 #include <sys/vfs.h>
 
 enum { HIGHEST_DESCRIPTOR = 1023 };    /* the kernel's tables grow with the highest */

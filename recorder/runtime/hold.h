@@ -3,7 +3,6 @@
    functions that it is in are recorded, and the cell has the use already. Then nothing changes but the
    position of that use. Such a hook is a step, as others are. Its calls are jumps: no registers are saved. */
 #include "runtime.h"
-#include "cells.h"
 
 void note_access(enum operation operation, uint64_t address, uint64_t size, uint64_t caller);
 void hold_elsewhere(thread *t, cell *c, uint64_t what, uint64_t address);

@@ -1,11 +1,8 @@
 /* Limits that a program sets on itself: they may end the recording and not the program, and nothing here
    counts in them. And what else a program asks of the system by prctl. */
 #include "runtime.h"
-#include "cells.h"
-#include <linux/futex.h>
 #include <sched.h>
 #include <sys/prctl.h>
-#include <sys/resource.h>
 
 /* With the turn, so nobody uses the cells. */
 static void end_with(const char *reason) {

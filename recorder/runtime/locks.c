@@ -1,6 +1,5 @@
 /* The calls of POSIX, C11 and C++ that order threads. */
 #include "ordering.h"
-#include <linux/futex.h>
 #include <semaphore.h>
 #include <threads.h>
 #include <unwind.h>

@@ -1,6 +1,5 @@
 /* Functions that give, take, copy or fill memory. */
 #include "runtime.h"
-#include <dlfcn.h>
 #include <sys/shm.h>
 
 void *__libc_calloc(size_t, size_t), *__libc_realloc(void *, size_t), *__libc_memalign(size_t, size_t);

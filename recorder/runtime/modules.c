@@ -1,6 +1,5 @@
 /* The modules of code in the program: which have hooks, and the functions that wrappers here stand for. */
 #include "runtime.h"
-#include <dlfcn.h>
 #include <link.h>
 
 enum { MAX_MODULES = 256 };

@@ -2,7 +2,6 @@
    at the calls that the compiler makes into it: a region's begin and end, barriers, critical and ordered
    sections, locks and tasks. */
 #include "ordering.h"
-#include <linux/futex.h>
 #include <stdbool.h>
 
 typedef char object[16];               /* its address is what it is known by */

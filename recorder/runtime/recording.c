@@ -2,8 +2,6 @@
    program. Of a process made by fork the record stays in memory until it starts a thread, or has no room
    there. Of a program that runs on it is in segments: each is a whole record, and the oldest are deleted. */
 #include "runtime.h"
-#include "cells.h"
-#include <sys/resource.h>
 #include <sys/sysinfo.h>
 
 /* the file grows by so much; the record of a child has so much in memory */

@@ -17,8 +17,6 @@
    waits for is no lock and no signal but that turn, at whose begin it takes the lock.  The replay is left
    where that thread doesn't come: then a wait for a condition ends, which may be at any time. */
 #include "runtime.h"
-#include <fcntl.h>
-#include <sys/stat.h>
 
 #define TURNS_MAGIC ANY_TURNS "5\n"     /* another number where steps are counted otherwise */
 enum { HEADER = 4096, STEP_BYTES = 1 << 20, MOST_BYTES = 128 << 20, FEW = 1 << 15 };

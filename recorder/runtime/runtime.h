@@ -1,8 +1,11 @@
 /* What the parts of the run-time library share, with the headers that most need. Each includes it first. */
 #pragma once
 #define _GNU_SOURCE
+#include <dlfcn.h>
 #include <errno.h>
+#include <fcntl.h>
 #include <limits.h>
+#include <linux/futex.h>
 #include <pthread.h>
 #include <signal.h>
 #include <stdarg.h>
@@ -11,10 +14,12 @@
 #include <stdlib.h>
 #include <string.h>
 #include <sys/mman.h>
+#include <sys/resource.h>
+#include <sys/stat.h>
 #include <sys/syscall.h>
 #include <time.h>
 #include <unistd.h>
-#include "../record.h"
+#include "cells.h"
 
 /* the C library's own */
 void *__libc_malloc(size_t);

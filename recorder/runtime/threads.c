@@ -1,6 +1,5 @@
 /* The begin and the end of the program and of its threads. */
 #include "hold.h"
-#include <linux/futex.h>
 #include <sched.h>
 #include <sys/auxv.h>
 #include <threads.h>

@@ -27,8 +27,6 @@
    only then the waiter reads the word.  It begins to doubt where the word was the same for a whole patience,
    and doubts as long as it is. tests/model.py searches all interleavings of this. */
 #include "runtime.h"
-#include "cells.h"
-#include <linux/futex.h>
 #include <linux/membarrier.h>
 
 #define NOBODY 0

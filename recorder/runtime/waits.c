@@ -1,7 +1,6 @@
 /* Calls that often wait. */
 #include "runtime.h"
 #include <sys/sem.h>
-#include <sys/stat.h>
 
 /* ---- calls that often block; one that is not here keeps the turn until a waiter finds it asleep ---- */
 void let_others_run(void) {
