@@ -333,7 +333,7 @@ int has_events(u32 t);
 int meets_thread(u32 t);               /* the trace names it; are these no more than it may have? */
 void pass_event(u32 t);                /* an access that the page's trace lacks */
 part name_of_thread(u32 t);            /* with WIDE bytes that may be read */
-part variable_name(u64 address, const block *b);             /* it stands until the next call */
+part variable_name(u64 address, u32 block_number);           /* it stands until the next call */
 part piece_name(u32 number);           /* the same of a piece, with WIDE bytes that may be read */
 /* Each returns the event's number in the trace, or 0. name: with WIDE bytes behind */
 u64 event(u32 t, const char *operation, part name, u64 caller);

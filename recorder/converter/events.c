@@ -64,10 +64,10 @@ int meets_thread(u32 t) {
 
 /* ---- names of variables ---- */
 /* "file.c:12#3+8", or "stack.T1-0x20" */
-static int write_block_name(char *to, u64 address, const block *b) {
+static int write_block_name(char *to, u64 address, block *b) {
     if (b->stack) return sprintf(to, "stack.%s-0x%lx", thread_name(b->thread), b->at + b->size - address);
     part place = place_of(b->caller);
-    block_of(block_number(b))->named = 1;
+    b->named = 1;
     int length = sprintf(to, "%.*s#%u", TEXT(place), block_number(b));
     return address == b->at ? length : length + sprintf(to + length, "+%lu", address - b->at);
 }
@@ -93,8 +93,9 @@ static part symbol_of(u64 address) {
     return *ENTRY(kept, address, 0) = found;
 }
 
-part variable_name(u64 address, const block *b) {
+part variable_name(u64 address, u32 block_number) {
     static char name[NAME_BYTES];
+    block *b = block_of(block_number);
     if (!b && address < FIRST_DESCRIPTOR) return symbol_of(address);
     return (part){name, b ? write_block_name(name, address, b) : write_descriptor_name(name, address)};
 }
@@ -107,7 +108,7 @@ inline part piece_name(u32 number) {
     u32 at = number & (RECENT - 1);
     if (recent[at].piece != number) {
         const piece *p = piece_of(number);
-        part name = variable_name(p->at, block_of(p->block));
+        part name = variable_name(p->at, p->block);
         if (name.length > SHORT) return (part){memcpy(long_name, name.at, name.length), name.length};
         recent[at].piece = number;
         recent[at].length = name.length;

@@ -19,6 +19,7 @@ typedef struct {
 } in_block;
 static INTERNED(in_block) in_blocks;   /* by their places */
 static VECTOR(access) accesses;
+#define EACH_ACCESS(k, last) for (u32 k = last; k; k = accesses.at[k - 1].before)
 static VECTOR(object) objects;
 static INTERNED(chain) chains;         /* of blocks: their objects */
 
@@ -36,7 +37,7 @@ void note_in_block(u64 at, u32 block_number) {
 void note_use_of_block(u64 at, u32 block_number, use_of_block use) {
     in_block *i = FOUND(in_blocks, at, block_number);
     chain *own = i ? &i->own : 0;
-    for (u32 k = own ? own->last : 0; k; k = accesses.at[k - 1].before)
+    EACH_ACCESS(k, own ? own->last : 0)
         if (accesses.at[k - 1].use.caller == use.caller) return;
     if (!own || own->count == MOST_OWN) return;
     *PUSH(accesses) = (access){.use = use, .before = own->last};
@@ -71,7 +72,7 @@ static size_t ask_access(u32 number, const in_block *i, char *name, object *o) {
 static void ask_own(const in_block *i) {
     static map types, met;
     char name[NAME_BYTES];
-    for (u32 k = i->own.last; k; k = accesses.at[k - 1].before) {
+    EACH_ACCESS(k, i->own.last) {
         access *a = &accesses.at[k - 1];
         object o = {.access = k};
         a->type_length = ask_access(k, i, name, &o);
@@ -141,9 +142,9 @@ static int find_larger(const in_block *i, access *best, char *name) {
 /* By the largest object that is certain, if what all of the variable's own accesses tell fits. */
 static size_t name_by_uses(in_block *i, char *name) {
     access best = {.object = 0};
-    for (u32 k = i->own.last; k; k = accesses.at[k - 1].before)
+    EACH_ACCESS(k, i->own.last)
         if (accesses.at[k - 1].object && is_larger(&accesses.at[k - 1], &best)) best = accesses.at[k - 1];
-    for (u32 k = best.object ? i->own.last : 0; k; k = accesses.at[k - 1].before)
+    EACH_ACCESS(k, best.object ? i->own.last : 0)
         if (accesses.at[k - 1].object && !are_together(&accesses.at[k - 1], &best)) return 0;
     if (best.object) best.name = strcpy(name, best.name);
     int is_found = find_larger(i, &best, name);
@@ -190,11 +191,11 @@ static void write_names_of_type(FILE *to, const in_block *first, const in_block 
             || (i + 1 < end && i[1].block == i->block && !strcmp(i[1].name, i->name));
         if (is_double) continue;
         const block *b = block_of(i->block);
-        part variable = variable_name(i->at, b);
+        part variable = variable_name(i->at, i->block);
         if (i->is_other) fprintf(to, "type %.*s\tother\n", TEXT(variable));
         fprintf(to, "local 0\t%.*s\t%.*s", TEXT(variable), own_length(i->name), i->name);
         if (with_block) {
-            part origin = variable_name(b->at, b);
+            part origin = variable_name(b->at, i->block);
             fprintf(to, " of %.*s", TEXT(origin));
         }
         fputc('\n', to);

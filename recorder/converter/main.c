@@ -211,11 +211,8 @@ static void read_words(int count, char **words) {
         {"list", 0, &for_list, 1}, {"version", 0, 0, 'v'}, {"help", 0, 0, 'h'}, {0}};
     opterr = 0;
     for (int c; (c = getopt_long(count, words, "ahn:", options, 0)) >= 0;)
-        if (c == 'h') {
-            fputs(help, stdout);
-            exit(0);
-        } else if (c == 'v') {
-            puts("shb-std " VERSION);
+        if (c == 'h' || c == 'v') {
+            fputs(c == 'h' ? help : "shb-std " VERSION "\n", stdout);
             exit(0);
         } else if (c && c < FILES) paths[c] = optarg;
         else if (c == 'f' && finer_count < MOST_FINER) finer[finer_count++] = strtol(optarg, 0, 10);

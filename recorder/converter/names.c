@@ -29,6 +29,7 @@ typedef struct {
 } place;
 typedef struct { u64 caller, function; } call_site;
 static INTERNED(place) places;         /* by callers */
+#define EACH_PLACE(p) EACH_OF(p, places.at, places.numbers.count)
 static place nowhere;                  /* of a caller that wasn't noted */
 
 static place *place_at(u32 number) { return number ? &places.at[number - 1] : &nowhere; }
@@ -134,13 +135,22 @@ static char *shortened(char *name) {
     return name;
 }
 
-const char *function_name(u64 address, char *buffer, size_t size) {
-    module *m = module_at(address);
-    symbol *s = m ? symbol_at(m, address) : 0;
-    char *name = s ? shortened(copied(s->name)) : 0;
+/* The name, which is freed, or "". */
+static const char *give_name_of(char *name, char *buffer, size_t size) {
     snprintf(buffer, size, "%s", name ? name : "");
     free(name);
     return buffer;
+}
+
+static char *short_name(const symbol *s) { return s ? shortened(copied(s->name)) : 0; }
+
+static symbol *found_symbol(u64 address) {
+    module *m = module_at(address);
+    return m ? symbol_at(m, address) : 0;
+}
+
+const char *function_name(u64 address, char *buffer, size_t size) {
+    return give_name_of(short_name(found_symbol(address)), buffer, size);
 }
 
 static int is_of_cxx_library(const char *name) {
@@ -176,14 +186,12 @@ int is_of_rust(const char *name) {
 int own_function_name(u64 address, char *buffer, size_t size) {
     module *m = module_at(address);
     symbol *s = m && !m->in_system && !m->is_recorder ? symbol_at(m, address) : 0;
-    char *name = s ? shortened(copied(s->name)) : 0;
+    char *name = short_name(s);
     if (name && (is_of_cxx_library(name) || is_of_rust(name))) {
         free(name);
         name = lambda_among(s->name);
     }
-    snprintf(buffer, size, "%s", name ? name : "");
-    free(name);
-    return *buffer != 0;
+    return *give_name_of(name, buffer, size) != 0;
 }
 
 /* ---- members of variables ---- */
@@ -228,7 +236,7 @@ static const member *member_at(module *m, const symbol *s, u64 address) {
    program "lib.so:x". */
 void symbol_name(u64 address, char *buffer, size_t size) {
     module *m = module_at(address);
-    symbol *s = m ? symbol_at(m, address) : 0;
+    symbol *s = found_symbol(address);
     if (!s) {
         snprintf(buffer, size, "0x%lx", address);
         return;
@@ -244,9 +252,8 @@ void symbol_name(u64 address, char *buffer, size_t size) {
 }
 
 int is_of_other_type(u64 address) {
-    module *m = module_at(address);
-    symbol *s = m ? symbol_at(m, address) : 0;
-    const member *found = s ? member_at(m, s, address) : 0;
+    symbol *s = found_symbol(address);
+    const member *found = s ? member_at(module_at(address), s, address) : 0;
     return found && found->is_other;
 }
 
@@ -357,7 +364,7 @@ void note_caller_of(const entry *e) {
 static u64 *addresses_in(module *m, u64 *count) {
     u64 *found = zeroed(places.numbers.count + 1, sizeof *found);
     *count = 0;
-    EACH_OF(p, places.at, places.numbers.count)                 /* the call, not where it returns to */
+    EACH_PLACE(p)                 /* the call, not where it returns to */
         if (p->caller && module_at(p->caller) == m) found[(*count)++] = p->caller - m->base - 1;
     qsort(found, *count, sizeof *found, by_number);
     return found;
@@ -478,8 +485,7 @@ static int is_hooked(module *m, u64 caller) {
     static map begins;                 /* of their symbols */
     static int is_known;
     for (u64 k = 0; !is_known && k < hooked.capacity; k++) {
-        module *in = hooked.entries[k].value ? module_at(hooked.entries[k].a) : 0;
-        symbol *s = in ? symbol_at(in, hooked.entries[k].a) : 0;
+        symbol *s = hooked.entries[k].value ? found_symbol(hooked.entries[k].a) : 0;
         if (s) map_number(&begins, s->at, 0);
     }
     is_known = 1;
@@ -513,7 +519,7 @@ static int is_own_frame(const inlined_frame *f) { return f->line && !f->in_syste
 
 /* Also what calls one of them, and what another module than the program's own calls. */
 static void find_doing(void) {
-    EACH_OF(p, places.at, places.numbers.count)
+    EACH_PLACE(p)
         if (p->does_more) add_doing(p->frames);
     for (u64 before = -1; before != doing.count;) {
         before = doing.count;
@@ -556,14 +562,14 @@ static void find_place(place *p) {
 
 /* The places of all callers whose module was asked, or that are in none. */
 static void find_asked_places(void) {
-    EACH_OF(p, places.at, places.numbers.count) {
+    EACH_PLACE(p) {
         const module *m = p->text ? 0 : module_at(p->caller);
         if (!p->text && (!m || m->asked)) find_place(p);
     }
 }
 
 static int has_callers(const module *m) {
-    EACH_OF(p, places.at, places.numbers.count)
+    EACH_PLACE(p)
         if (p->caller && module_at(p->caller) == m) return 1;
     return 0;
 }

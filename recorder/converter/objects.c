@@ -391,7 +391,7 @@ static u32 lock_of(object *o, which w, u32 t) {
     u32 number = INTERN(locks, index_of(o) << 8 | w.sign, thread << 32 | w.version);
     if (!w.sign) o->lock = number;
     if (locks.at[number - 1].length) return number;
-    part name = variable_name(o->at, block_of(o->block));
+    part name = variable_name(o->at, o->block);
     char *tail = mempcpy(text, name.at, name.length);
     if (w.sign == 'r') tail += snprintf(tail, TAIL_BYTES, "@reader.%s", thread_name(t));
     else if (w.sign) tail += snprintf(tail, TAIL_BYTES, "%s%u", o->mark, w.version);
@@ -414,7 +414,7 @@ static u32 lock_of_key(u64 key, u32 t) {
 }
 int is_for_reading(u64 key) { return key & 1; }
 part name_of_held(u64 key) {
-    return variable_name(object_of_key(key)->at, block_of(object_of_key(key)->block));
+    return variable_name(object_of_key(key)->at, object_of_key(key)->block);
 }
 
 /* Before an event of it. */

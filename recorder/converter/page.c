@@ -134,7 +134,7 @@ static int is_racing(u32 number) {
     block *b = block_of(p->block);
     int may_be = !b || b->stack || map_find(&page.blocks, p->block, 0);
     if (!may_be) b->named = 1;         /* as if its name had been made: the file of stacks has it */
-    part name = may_be ? variable_name(p->at, b) : (part){0};
+    part name = may_be ? piece_name(number) : (part){0};
     answers.at[number] = may_be && map_find_bytes(&page.names, name.at, name.length) ? YES : NO;
     return answers.at[number] == YES;
 }

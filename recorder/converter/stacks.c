@@ -89,7 +89,7 @@ static INTERNED(named) named_places;
 /* It has this name from the event on. */
 static void write_local(u64 event, named *n, const char *name) {
     n->name = name;
-    part variable = variable_name(n->at, block_of(n->block));
+    part variable = variable_name(n->at, n->block);
     fprintf(lines, "local %lu\t%.*s\t", event, TEXT(variable));
     write_own_name(lines, name);
     fputc('\n', lines);
@@ -404,7 +404,7 @@ void note_use(const entry *e, u64 object, int gives) {
     if (!notes_uses()) return;
     const block *b = block_at(e->address);
     note_name(e->address, block_number(b), written + 1, t);
-    part name = variable_name(e->address, b), place = place_of(own_place(t, e->caller));
+    part name = variable_name(e->address, block_number(b)), place = place_of(own_place(t, e->caller));
     fprintf(lines, "use %lu\t%.*s\t%s\t%.*s\t%s %s%s\n", written + 1, TEXT(name),
             thread_name(t), TEXT(place),
             is_load ? "load" : is_store ? "store" : is_exchange(e) ? "exchange" : "update",

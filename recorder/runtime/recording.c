@@ -154,9 +154,11 @@ static record record_of(const thread *t, enum operation operation, uint64_t wher
                            (caller & LOW_48_BITS) | (uint64_t)operation << 48 | size << 54};
 }
 
+static void add_size(uint64_t size) { records[written++] = (record){size, (uint64_t)OP_SIZE << 48}; }
+
 static void add(const thread *t, enum operation operation, uint64_t where, uint64_t size, uint64_t caller) {
     records[written++] = record_of(t, operation, where, size < SIZE_FOLLOWS ? size : SIZE_FOLLOWS, caller);
-    if (size >= SIZE_FOLLOWS) records[written++] = (record){size, (uint64_t)OP_SIZE << 48};
+    if (size >= SIZE_FOLLOWS) add_size(size);
 }
 
 enum { ROOM = 5 };                     /* of one access, its depth and its way, with sizes */
@@ -309,7 +311,7 @@ static void put_now(thread *t, enum operation operation, pointer address, uint64
     uint64_t way = is_plain(operation) ? 0 : way_to(t, t->depth, caller);
     if (way) add(t, OP_WAY, 0, 0, way);
     records[written++] = r;
-    if (inside == SIZE_FOLLOWS) records[written++] = (record){size, (uint64_t)OP_SIZE << 48};
+    if (inside == SIZE_FOLLOWS) add_size(size);
     if (segment_records) note_held(r);
     count_locks(t, &r, operation);
 }
