@@ -105,7 +105,8 @@ impl Places {
         Ok(())
     }
 
-    /// No two races have one place. A law in the form of a call: it does nothing, and its callers may rely on what it states.
+    /// No two races have one place. A law in the form of a call: it does nothing, and its callers may rely on
+    /// what it states.
     pub fn are_different(&self)
         ensures { IsDistinct same_place (keys_of self.now.races.entries) }
     {

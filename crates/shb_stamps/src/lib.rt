@@ -26,8 +26,8 @@
 //! the write's clock. The stamp of the write names that row from then on, so other readers take over its
 //! number, and no row is made for them. Rows are never changed. When there are many, `moving` moves those
 //! that these tables name to new ones, the last ones first, and frees the old ones meanwhile, so that both together
-//! take little more than the old ones did. `KeptRows` copies the row before each listed event to rows that stay, unless it is the last one that was copied for its
-//! thread.
+//! take little more than the old ones did. `KeptRows` copies the row before each listed event to rows that stay,
+//! unless it is the last one that was copied for its thread.
 #![tactic(auto)]
 
 mod clock;
