@@ -166,7 +166,7 @@ def costs():
     yield Cost("a variable for each section of 1,000 threads under a lock", STREAM,
                shapes.variables_of_many_threads, 180_000, unit=MEMORY)
     yield Cost("variables that 200 threads write under a lock again and again", STREAM,
-               shapes.variables_under_a_lock, 3_000_000,
+               shapes.variables_under_a_lock, 4_000_000,
                unit=MEMORY, growth=SAME)
     yield Cost("turns at many locations", STREAM, shapes.turns_at_many, 500_000, unit=MEMORY, growth=SAME)
     yield Cost("long sections at 100 locations", STREAM, shapes.long_sections, 6_000_000, unit=MEMORY,
