@@ -169,7 +169,7 @@ def costs():
                shapes.variables_under_a_lock, 4_000_000,
                unit=MEMORY, growth=SAME)
     yield Cost("turns at many locations", STREAM, shapes.turns_at_many, 500_000, unit=MEMORY, growth=SAME)
-    yield Cost("long sections at 100 locations", STREAM, shapes.long_sections, 6_000_000, unit=MEMORY,
+    yield Cost("long sections at 100 locations", STREAM, shapes.long_sections, 8_000_000, unit=MEMORY,
                growth=SAME)
     yield Cost("crowds beside a hot pair", RACES, shapes.crowds_beside_a_hot_pair, 24_000, cut=True,
                unit=MEMORY)
