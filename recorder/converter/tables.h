@@ -25,7 +25,9 @@ void cannot_read(const char *path) __attribute__((noreturn));
 void cannot_write(const char *path) __attribute__((noreturn));
 void end_file(FILE *file, const char *path);                 /* what was written is there, or it dies */
 char *cleaned(char *text);             /* what would end a field or a line is another sign now */
-static inline int starts_with(const char *text, const char *with) { return !strncmp(text, with, strlen(with)); }
+static inline int starts_with(const char *text, const char *begin) {
+    return !strncmp(text, begin, strlen(begin));
+}
 void *zeroed(size_t count, size_t size);
 char *copied(const char *text);
 void *mapped(size_t count, size_t size);                     /* what isn't used of it takes addresses alone */
@@ -59,7 +61,8 @@ void *grown(void *array, u64 count, u64 *capacity, size_t size);
 #define ENTRY(table, a, b) ({ const u32 its_number = INTERN(table, a, b); &(table).at[its_number - 1]; })
 /* The address of the entry of a key that is there; or null. */
 #define FOUND(table, a, b) \
-    ({ const u32 its_number = map_find(&(table).numbers, a, b); its_number ? &(table).at[its_number - 1] : 0; })
+    ({ const u32 its_number = map_find(&(table).numbers, a, b); \
+       its_number ? &(table).at[its_number - 1] : 0; })
 u32 intern(map *numbers, u64 a, u64 b, void *array, u64 *capacity, size_t size);
 u32 map_find(const map *m, u64 a, u64 b);                    /* 0: it isn't there */
 u32 map_number(map *m, u64 a, u64 b);

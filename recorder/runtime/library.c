@@ -86,7 +86,8 @@ static void appends(uint64_t seen, const char *to, const char *from, size_t n) {
 AFTER(size_t, strlen, (const char *s), (s), READS(s, r + 1))
 AFTER(size_t, strnlen, (const char *s, size_t n), (s, n), READS(s, least(r + 1, n)))
 #define COMPARES(name, without_case) \
-    AFTER(int, str##name, (const char *s, const char *o), (s, o), compare(seen, s, o, SIZE_MAX, without_case)) \
+    AFTER(int, str##name, (const char *s, const char *o), (s, o), \
+          compare(seen, s, o, SIZE_MAX, without_case)) \
     AFTER(int, strn##name, (const char *s, const char *o, size_t n), (s, o, n), \
           compare(seen, s, o, n, without_case))
 COMPARES(cmp, 0)
@@ -112,7 +113,8 @@ COPIES_WITHIN(stpncpy, copies_within(seen, to, from, n))
 COPIES_WITHIN(strncat, appends(seen, to, from, n))
 #define DUPLICATES(form) \
     AFTER(char *, form##dup, (const char *s), (s), READS(s, text(s)), gets_text(seen, r)) \
-    AFTER(char *, form##ndup, (const char *s, size_t n), (s, n), READS(s, text_within(s, n)), gets_text(seen, r))
+    AFTER(char *, form##ndup, (const char *s, size_t n), (s, n), \
+          READS(s, text_within(s, n)), gets_text(seen, r))
 DUPLICATES(str)
 DUPLICATES(__str)
 AFTER(char *, strtok, (char *s, const char *set), (s, set), READS(set, text(set)); if (r) READS(r, text(r)))
