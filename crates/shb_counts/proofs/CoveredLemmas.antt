@@ -100,7 +100,7 @@ module _ (trace : List Event) (entries : List Entry) (events : List ℕ) (old : 
   window_positive k d lt some =
       let window = get_or windows k d in
       let low = (w.within k d lt).1 in
-      let entry = get_or entries window.start (record { thread = 0; event = 0; time = 0; location = 0; end = 0 }) in
+      let entry = get_or entries window.start (record { thread = 0; event = 0; time = 0; location = 0; end = 0; least = 0 }) in
       let there = within_one windows k window.start d lt (within_yes window window.start (omega arith) some) in
       race_positive trace entry.event later (w.racing window.start entry (slice_get-get_or entries window.start _ (omega (arith, some, low))) ∙ there)
 

@@ -1,12 +1,14 @@
 -- A search by halves for where entries begin that are past a limit.
-use Rattle.std.proofs.Common.{◌≡◌, ℕ, ◌+◌, ◌-◌, ◌<◌, ◌≤◌, inl, inr, true, false, List, Some, length, get_or, arith, ap, sym, ◌∙◌}
-use Rattle.std.specs.Prelude.{nat_lt, not, slice_get}
+use Rattle.std.proofs.Common.{◌≡◌, ℕ, ◌+◌, ◌-◌, ◌<◌, ◌≤◌, inl, inr, Bool, true, false, List, Some, length, get_or, arith, refl, ap, sym, ◌∙◌}
+use Rattle.std.specs.Prelude.{nat_lt, not, slice_get, ◌&&◌}
 use Rattle.std.proofs.lemmas.Bool.{cases_Bool, cases_lt, le-ltb, lt-ltb}
 use Rattle.std.proofs.lemmas.Option.{slice_get-get_or}
 use Rattle.shb_counts.specs.declared.accesses.Entry.{Entry}
 use Rattle.shb_counts.specs.declared.finder.Limit.{Limit}
 use Rattle.shb_counts.specs.declared.finder.Limit.TheVariants.{Above, From}
-use Rattle.shb_counts.specs.Windows.{AreRising, IsFirst, is_past}
+use Rattle.shb_counts.specs.declared.finder.Window.{Window}
+use Rattle.shb_counts.specs.Windows.{AreRising, IsFirst, IsWindow, is_between, is_past}
+use Rattle.shb_counts.proofs.WindowLemmas.{has_not}
 
 -- what comes after an entry that is past the limit is past it too
 abbrev pub Rises : Limit → List Entry → ℕ → ℕ → Type 0
@@ -85,4 +87,36 @@ first_here limit entries from to at rising begins ends past none =
       after = λ g entry is le lt. (
           let there = slice_get-get_or entries at entry (omega (arith, le, lt, within)) in
           rises at g (get_or entries at entry) entry there is begins le lt (past (get_or entries at entry) there (omega (arith, le, lt))));
+    }
+
+and_false : (b : Bool) → (b && false) ≡ false
+and_false true = refl
+and_false false = refl
+
+not_true : (b : Bool) → not b ≡ true → b ≡ false
+not_true false h = refl
+not_true true h = absurd (let f : ⊥ = cc in f)
+
+-- no entry is before an event and above a time, if none is above it before an index, and none before the event from there on
+pub empty_here : (entries : List Entry) (from to at event time : ℕ) → AreRising entries from to → from < at → at ≤ to → ((entry : Entry) → slice_get entries at ≡ Some entry → at < to → is_past (From event) entry ≡ true)
+    → ((entry : Entry) → slice_get entries (at - 1) ≡ Some entry → from < at → is_past (Above time) entry ≡ false) → IsWindow (is_between event time) entries from to (record { start = at; end = at })
+empty_here entries from to at event time rising more ends past none =
+    let within = rising.within in
+    let window : Window = record { start = at; end = at } in record {
+      begins = omega (arith, more);
+      forward = omega arith;
+      ends = ends;
+      passing = λ j entry is begins lt. elim (cases_lt j at) [
+        | inl before ↦ (
+            let last = slice_get-get_or entries (at - 1) entry (omega (arith, more, ends, within)) in
+            let low : nat_lt time entry.time ≡ false = elim (cases_Bool (nat_lt time entry.time)) [
+              | inr h ↦ h
+              | inl h ↦ absurd (let bad : true ≡ false = sym (limit_rises (Above time) entries from to rising j (at - 1) entry (get_or entries (at - 1) entry) is last begins (omega (arith, before)) (omega (arith, more, ends)) h) ∙ none (get_or entries (at - 1) entry) last more in cc)
+            ] in
+            ap (λ (b : Bool). nat_lt entry.event event && b) low ∙ (and_false (nat_lt entry.event event) ∙ sym (has_not j window (inl before))))
+        | inr on ↦ (
+            let there = slice_get-get_or entries at entry (omega (arith, on, lt, within)) in
+            let up = limit_rises (From event) entries from to rising at j (get_or entries at entry) entry there is (omega (arith, more)) on lt (past (get_or entries at entry) there (omega (arith, on, lt))) in
+            ap (λ (b : Bool). b && nat_lt time entry.time) (not_true (nat_lt entry.event event) up) ∙ sym (has_not j window (inr on)))
+      ];
     }

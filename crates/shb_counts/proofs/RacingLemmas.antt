@@ -1,13 +1,13 @@
 -- The races of an access are those entries of its variable that are before it and above what it knows of their thread.
-use Rattle.std.proofs.Common.{◌≡◌, ℕ, zero, suc, ◌+◌, ◌-◌, ◌^◌, ◌<◌, ◌≤◌, ◌⊎◌, inl, inr, Bool, true, false, cond, List, [], ◌∷◌, ◌++◌, Some, length, map, take, refl, arith, ap, sym, subst, ◌∙◌, append-nil}
+use Rattle.std.proofs.Common.{◌≡◌, ℕ, zero, suc, ◌+◌, ◌-◌, ◌^◌, ◌<◌, ◌≤◌, ◌⊎◌, inl, inr, Bool, true, false, cond, List, [], ◌∷◌, ◌++◌, Some, get_or, length, map, take, refl, arith, ap, sym, subst, ◌∙◌, append-nil}
 use Rattle.std.specs.Prelude.{Contains, count_by, filter, nat_lt, ◌&&◌, ◌||◌, slice_get}
 use Rattle.std.specs.List.{sum_by}
 use Rattle.std.proofs.lemmas.Bool.{cases_Bool, cases_lt, le-ltb, lt-ltb}
-use Rattle.std.proofs.lemmas.List.{length-map, take_all}
+use Rattle.std.proofs.lemmas.List.{length-map, length-take-le, take_all}
 use Rattle.std.proofs.lemmas.List.Elements.{All-contains}
 use Rattle.std.proofs.lemmas.List.Sorted.{Contains-permutation, sum_by-IsPermutation}
-use Rattle.std.proofs.lemmas.List.Sums.{length-filter, sum_by-cons}
-use Rattle.std.proofs.lemmas.Option.{get_or_from_slice_get, slice_get_within}
+use Rattle.std.proofs.lemmas.List.Sums.{count_by-le-length, length-filter, sum_by-cons}
+use Rattle.std.proofs.lemmas.Option.{get_or_from_slice_get, slice_get-get_or, slice_get_within}
 use Rattle.shb_lines.specs.declared.event.Event.{Event}
 use Rattle.shb_lines.specs.declared.event.Op.TheVariants.{Write}
 use Rattle.shb_lines.proofs.events.Search.{writes_at_is}
@@ -20,13 +20,13 @@ use Rattle.shb_stamps.proofs.Accesses.{access_from_test, test_from_access}
 use Rattle.shb_stamps.proofs.FlatMaps.{map_contains}
 use Rattle.shb_stamps.proofs.Times.{times_rise}
 use Rattle.shb_counts.specs.Accesses.{AreEntries, IsAccess, IsEntry, rivals}
-use Rattle.shb_counts.specs.Windows.{AreRising, IsWindow, is_between}
+use Rattle.shb_counts.specs.Windows.{AreRising, AreWindows, IsLooked, IsWindow, is_between}
 use Rattle.shb_counts.specs.declared.accesses.Access.{Access}
 use Rattle.shb_counts.specs.declared.accesses.Entry.{Entry}
 use Rattle.shb_counts.specs.declared.finder.Window.{Window}
 use Rattle.shb_counts.proofs.FilterLemmas.{filter_numbers}
 use Rattle.shb_counts.proofs.RaceFilter.{race_test}
-use Rattle.shb_counts.proofs.WindowLemmas.{HasWindows, next_window, window_counted}
+use Rattle.shb_counts.proofs.WindowLemmas.{all_up_to, has_not, next_window, none_between, window_counted, within_none}
 
 both_parts : (a b : Bool) → (a && b) ≡ true → (a ≡ true) × (b ≡ true)
 both_parts true b h = (refl, h)
@@ -61,12 +61,19 @@ sum_mapped v f (x ∷ xs) =
     let rest = sum_mapped v f xs in
     omega (arith, first, second, rest)
 
--- what is found among the first entries
-pub record IsLooked (trace : List Event) (e : ℕ) (entries : List Entry) (from races : ℕ) (windows : List Window) : Type 0 where
-  pub within : from ≤ length entries
-  pub few : from < 2 ^ 32
-  pub found : HasWindows (λ entry. is_race trace entry.event e) entries from windows
-  pub counted : races ≡ count_by (λ entry. is_race trace entry.event e) (take from entries)
+pub no_entry : Entry
+no_entry = record { thread = 0; event = 0; time = 0; location = 0; end = 0; least = 0 }
+
+pub races_within : (trace : List Event) (e : ℕ) (entries : List Entry) (from races : ℕ) (windows : List Window) → IsLooked trace e entries from races windows → races ≤ from
+races_within trace e entries from races windows looked =
+    let counted = looked.counted in
+    let some = count_by-le-length (λ (entry : Entry). is_race trace entry.event e) (take from entries) in
+    let long = length-take-le from entries looked.within in
+    omega (arith, counted, some, long)
+
+-- what stands at an index is the entry there
+pub late_here : (entries : List Entry) (from e : ℕ) (entry d : Entry) → slice_get entries from ≡ Some entry → e ≤ (get_or entries from d).event → e ≤ entry.event
+late_here entries from e entry d is le = subst (λ (f : Entry). e ≤ f.event) (get_or_from_slice_get entries from entry d is) le
 
 module _ (trace : List Event) (numbers : List ℕ) (access : Access) (entries : List Entry) (is_access : IsAccess trace numbers access) (are : AreEntries trace numbers access.variable access.writes entries) where
   abbrev pub x : ℕ
@@ -136,7 +143,7 @@ module _ (trace : List Event) (numbers : List ℕ) (access : Access) (entries : 
       ]
 
   -- the entries of a thread rise up to their end
-  rises_on : (from : ℕ) (first : Entry) → slice_get entries from ≡ Some first → AreRising entries from first.end
+  pub rises_on : (from : ℕ) (first : Entry) → slice_get entries from ≡ Some first → AreRising entries from first.end
   rises_on from first is =
       let ends = are.grouped.ends from first is in
       let up = ends.0 in
@@ -168,33 +175,82 @@ module _ (trace : List Event) (numbers : List ℕ) (access : Access) (entries : 
   pub group_more : (from : ℕ) (first : Entry) (to : ℕ) → slice_get entries from ≡ Some first → to ≡ first.end → from < length entries → length entries - to < length entries - from
   group_more from first to is end lt = let up = (are.grouped.ends from first is).0 in omega (arith, up, end, lt)
 
+  -- a window above what is known of the thread has those that race
+  pub window_races : (from : ℕ) (below : ℕ) (first : Entry) (window : Window) → slice_get entries from ≡ Some first → IsBelowPredCount trace first.thread e below → IsWindow (is_between e below) entries from first.end window
+      → IsWindow (λ entry. is_race trace entry.event e) entries from first.end window
+  window_races from below first window is counts found = record {
+    begins = found.begins;
+    forward = found.forward;
+    ends = found.ends;
+    passing = λ j entry is_j begins lt. (
+        let of_thread = are.grouped.same from j first entry is is_j begins lt in
+        entry_races j below entry is_j (subst (λ (t : ℕ). IsBelowPredCount trace t e below) (sym of_thread.0) counts) ∙ found.passing j entry is_j begins lt);
+  }
+
+  not_before : (j : ℕ) (entry : Entry) → e ≤ entry.event → is_race trace entry.event e ≡ false
+  not_before j entry past = elim (cases_Bool (is_race trace entry.event e)) [
+    | inr fails ↦ fails
+    | inl races ↦ absurd (let lt = ((reflect_race trace entry.event e).0 races).earlier in omega (arith, lt, past))
+  ]
+
+  -- where the first entry of a thread isn't before the access, none races
+  pub none_races : (from : ℕ) (first : Entry) (window : Window) → slice_get entries from ≡ Some first → e ≤ first.event → window.start ≡ from → window.end ≡ from → IsWindow (λ entry. is_race trace entry.event e) entries from first.end window
+  none_races from first window is past starts ends = record {
+    begins = omega (arith, starts);
+    forward = omega (arith, starts, ends);
+    ends = (let up = (are.grouped.ends from first is).0 in omega (arith, up, ends));
+    passing = λ j entry is_j begins lt. (
+        let rise = (rises_on from first is).rise from j first entry is is_j (omega arith) begins lt in
+        let up = rise.0 in
+        not_before j entry (omega (arith, past, up)) ∙ sym (has_not j window (inr (omega (arith, begins, ends)))));
+  }
+
   -- the entries of one thread more
-  next_looked : (from races below : ℕ) (windows : List Window) (first : Entry) (window : Window) → slice_get entries from ≡ Some first → first.end < 2 ^ 32 → IsBelowPredCount trace first.thread e below
-      → IsWindow (is_between e below) entries from first.end window → IsLooked trace e entries from races windows → IsLooked trace e entries first.end (races + (window.end - window.start)) (windows ++ window ∷ [])
-  next_looked from races below windows first window is few counts found so_far =
+  pub looked_on : (from races to : ℕ) (windows longer : List Window) (first : Entry) (window : Window) → slice_get entries from ≡ Some first → to ≡ first.end → to < 2 ^ 32
+      → IsWindow (λ entry. is_race trace entry.event e) entries from first.end window → longer ≡ cond (nat_lt window.start window.end) (windows ++ window ∷ []) windows → IsLooked trace e entries from races windows
+      → IsLooked trace e entries to (races + (window.end - window.start)) longer
+  looked_on from races to windows longer first window is end few next longer_is so_far =
       let rises = rises_on from first is in
-      let next : IsWindow (λ entry. is_race trace entry.event e) entries from first.end window = record {
-        begins = found.begins;
-        forward = found.forward;
-        ends = found.ends;
-        passing = λ j entry is_j begins lt. (
-            let of_thread = are.grouped.same from j first entry is is_j begins lt in
-            entry_races j below entry is_j (subst (λ (t : ℕ). IsBelowPredCount trace t e below) (sym of_thread.0) counts) ∙ found.passing j entry is_j begins lt);
-      } in
       let more = window_counted (λ (entry : Entry). is_race trace entry.event e) entries first from first.end window rises.within next in
       let counted = so_far.counted in
-      record {
+      let looked : IsLooked trace e entries first.end (races + (window.end - window.start)) (cond (nat_lt window.start window.end) (windows ++ window ∷ []) windows) = record {
         within = rises.within;
-        few = few;
+        few = omega (arith, end, few);
         found = next_window (λ (entry : Entry). is_race trace entry.event e) entries from first.end windows window rises.forward so_far.found next;
         counted = omega (arith, more, counted);
-      }
+      } in
+      rw (longer_is, end) looked
 
-  pub looked_on : (from races below to : ℕ) (windows longer : List Window) (first : Entry) (window : Window) → slice_get entries from ≡ Some first → to ≡ first.end → to < 2 ^ 32 → IsBelowPredCount trace first.thread e below
-      → IsWindow (is_between e below) entries from to window → longer ≡ windows ++ window ∷ [] → IsLooked trace e entries from races windows → IsLooked trace e entries to (races + (window.end - window.start)) longer
-  looked_on from races below to windows longer first window is end few counts found longer_is so_far =
-      rw (longer_is, end) (next_looked from races below windows first window is (omega (arith, end, few)) counts (subst (λ (n : ℕ). IsWindow (is_between e below) entries from n window) end found) so_far)
+  -- a thread that has an empty window is passed
+  pub passed_on : (from races to below k : ℕ) (windows : List Window) (first : Entry) → slice_get entries from ≡ Some first → to ≡ first.end → to < 2 ^ 32 → IsBelowPredCount trace first.thread e below
+      → IsWindow (is_between e below) entries from first.end (record { start = k; end = k }) → IsLooked trace e entries from races windows → IsLooked trace e entries to races windows
+  passed_on from races to below k windows first is end few counts found so_far =
+      subst (λ (n : ℕ). IsLooked trace e entries to n windows) (let zero : races + (k - k) ≡ races = omega arith in zero)
+      (looked_on from races to windows windows first (record { start = k; end = k }) is end few (window_races from below first (record { start = k; end = k }) is counts found)
+      (sym (ap (λ (b : Bool). cond b (windows ++ record { start = k; end = k } ∷ []) windows) (le-ltb k k (omega arith)))) so_far)
 
-  module _ (from races : ℕ) (windows : List Window) (end : length entries ≤ from) (looked : IsLooked trace e entries from races windows) where
+  module _ (from races : ℕ) (windows : List Window) (low : (entry : Entry) → slice_get entries from ≡ Some entry → e ≤ entry.least) (looked : IsLooked trace e entries from races windows) where
+    none_after : (j : ℕ) (entry : Entry) → slice_get entries j ≡ Some entry → from ≤ j → is_race trace entry.event e ≡ false
+    none_after j entry is le =
+        let there : slice_get entries from ≡ Some (get_or entries from entry) = slice_get-get_or entries from entry (let within = slice_get_within entries j entry is in omega (arith, within, le)) in
+        let least = are.grouped.least from j (get_or entries from entry) entry there is le in
+        let past = low (get_or entries from entry) there in
+        not_before j entry (omega (arith, least, past))
+
+    pub all_windows : AreWindows trace e entries windows
+    all_windows = record {
+      within = (let le = looked.within in all_up_to from (length entries) windows le looked.found.within);
+      apart = looked.found.apart;
+      racing = λ j entry is. elim (cases_lt j from) [
+        | inl before ↦ looked.found.passing j entry is before
+        | inr past ↦ none_after j entry is past ∙ sym (within_none windows j from looked.found.within past)
+      ];
+    }
+
     pub all_counted : races ≡ length (races_with trace e)
-    all_counted = looked.counted ∙ (ap (count_by (λ (entry : Entry). is_race trace entry.event e)) (take_all from entries end) ∙ racing_counted)
+    all_counted =
+        let rest = none_between (λ (entry : Entry). is_race trace entry.event e) entries no_entry from (length entries) looked.within (omega arith) (λ j le lt. none_after j (get_or entries j no_entry) (slice_get-get_or entries j no_entry lt) le) in
+        let all = ap (count_by (λ (entry : Entry). is_race trace entry.event e)) (take_all (length entries) entries (omega arith)) in
+        let counted = looked.counted in
+        let races_are = racing_counted in
+        omega (arith, rest, all, counted, races_are)

@@ -1,6 +1,6 @@
 -- Windows of a list, one after the other: which elements are in one of them, and how many these are.
-use Rattle.std.proofs.Common.{◌≡◌, ℕ, zero, suc, ◌+◌, ◌-◌, ◌<◌, ◌≤◌, ◌⊎◌, inl, inr, Bool, true, false, List, [], ◌∷◌, ◌++◌, Some, length, take, get_or, refl, arith, ap, sym, ◌∙◌}
-use Rattle.std.specs.Prelude.{All, AllPairs, count_by, nat_lt, not, ◌&&◌, ◌||◌, slice_get}
+use Rattle.std.proofs.Common.{◌≡◌, ℕ, zero, suc, ◌+◌, ◌-◌, ◌<◌, ◌≤◌, ◌⊎◌, inl, inr, Bool, true, false, cond, List, [], ◌∷◌, ◌++◌, length, take, get_or, refl, arith, ap, sym, subst, ◌∙◌}
+use Rattle.std.specs.Prelude.{All, count_by, nat_lt, not, ◌&&◌, ◌||◌}
 use Rattle.std.proofs.lemmas.Bool.{cases_lt, le-ltb, lt-ltb}
 use Rattle.std.proofs.lemmas.List.Elements.{All-push, All-get_or, All-weaker}
 use Rattle.std.proofs.lemmas.List.Quantifiers.{all_pairs_push}
@@ -8,7 +8,7 @@ use Rattle.std.proofs.lemmas.List.Sums.{count_by_more_no, count_by_more_yes}
 use Rattle.std.proofs.lemmas.Option.{slice_get-get_or}
 use Rattle.shb_counts.specs.declared.finder.Window.{Window}
 use Rattle.shb_counts.specs.declared.accesses.Entry.{Entry}
-use Rattle.shb_counts.specs.Windows.{IsWindow, has_index, is_within}
+use Rattle.shb_counts.specs.Windows.{AreWindowsUpTo, IsWindow, has_index, is_within}
 
 pub has_not : (j : ℕ) (window : Window) → (j < window.start) ⊎ (window.end ≤ j) → has_index j window ≡ false
 has_not j window (inl lt) = ap (λ (b : Bool). not b && nat_lt j window.end) (lt-ltb j window.start lt)
@@ -34,25 +34,20 @@ within_push (v ∷ windows) w j = by (has_index j v) (within_push windows w j)
     by true rest = refl
     by false rest = rest
 
-within_none : (windows : List Window) (j n : ℕ) → All (λ w. (w.start ≤ w.end) × (w.end ≤ n)) windows → n ≤ j → is_within windows j ≡ false
+pub within_none : (windows : List Window) (j n : ℕ) → All (λ w. (w.start ≤ w.end) × (w.end ≤ n)) windows → n ≤ j → is_within windows j ≡ false
 within_none [] j n each le = refl
 within_none (v ∷ windows) j n each le =
     let own = All-get_or (λ (w : Window). (w.start ≤ w.end) × (w.end ≤ n)) (v ∷ windows) 0 v (omega arith) each in
     let past = own.1 in
     ap (λ (b : Bool). b || is_within windows j) (has_not j v (inr (omega (arith, past, le)))) ∙ within_none windows j n (λ k d lt. each (suc k) d (omega (arith, lt))) le
 
-module _ (f : Entry → Bool) (xs : List Entry) where
-  -- these windows, each after the one before, have those of the first n elements that pass
-  pub record HasWindows (n : ℕ) (windows : List Window) : Type 0 where
-    pub within : All (λ window. (window.start ≤ window.end) × (window.end ≤ n)) windows
-    pub apart : AllPairs (λ one next. one.end ≤ next.start) windows
-    pub passing : (j : ℕ) (x : Entry) → slice_get xs j ≡ Some x → j < n → f x ≡ is_within windows j
+pub all_up_to : (n m : ℕ) (windows : List Window) → n ≤ m → All (λ window. (window.start ≤ window.end) × (window.end ≤ n)) windows → All (λ window. (window.start ≤ window.end) × (window.end ≤ m)) windows
+all_up_to n m windows le each = All-weaker (λ (window : Window). (window.start ≤ window.end) × (window.end ≤ n)) (λ (window : Window). (window.start ≤ window.end) × (window.end ≤ m)) (λ v h. (h.0, (let end = h.1 in omega (arith, end, le)))) windows each
 
-  pub next_window : (n m : ℕ) (windows : List Window) (w : Window) → n ≤ m → HasWindows n windows → IsWindow f xs n m w → HasWindows m (windows ++ w ∷ [])
-  next_window n m windows w le so_far next = record {
-    within = All-push (λ (window : Window). (window.start ≤ window.end) × (window.end ≤ m)) windows w
-        (All-weaker (λ (window : Window). (window.start ≤ window.end) × (window.end ≤ n)) (λ (window : Window). (window.start ≤ window.end) × (window.end ≤ m)) (λ v h. (h.0, (let end = h.1 in omega (arith, end, le)))) windows so_far.within)
-        (next.forward, next.ends);
+module _ (f : Entry → Bool) (xs : List Entry) where
+  window_more : (n m : ℕ) (windows : List Window) (w : Window) → n ≤ m → AreWindowsUpTo f xs n windows → IsWindow f xs n m w → AreWindowsUpTo f xs m (windows ++ w ∷ [])
+  window_more n m windows w le so_far next = record {
+    within = All-push (λ (window : Window). (window.start ≤ window.end) × (window.end ≤ m)) windows w (all_up_to n m windows le so_far.within) (next.forward, next.ends);
     apart = all_pairs_push (λ (one next : Window). one.end ≤ next.start) windows w so_far.apart
         (λ k d lt. (let own = (All-get_or (λ (window : Window). (window.start ≤ window.end) × (window.end ≤ n)) windows k d lt so_far.within).1 in let begins = next.begins in omega (arith, own, begins)));
     passing = λ j x is lt. elim (cases_lt j n) [
@@ -64,6 +59,23 @@ module _ (f : Entry → Bool) (xs : List Entry) where
       last : (b : Bool) → (b || false) ≡ b
       last true = refl
       last false = refl
+
+  window_none : (n m : ℕ) (windows : List Window) (w : Window) → n ≤ m → w.end ≤ w.start → AreWindowsUpTo f xs n windows → IsWindow f xs n m w → AreWindowsUpTo f xs m windows
+  window_none n m windows w le none so_far next = record {
+    within = all_up_to n m windows le so_far.within;
+    apart = so_far.apart;
+    passing = λ j x is lt. elim (cases_lt j n) [
+      | inl before ↦ so_far.passing j x is before
+      | inr from ↦ next.passing j x is from lt ∙ (has_not j w (elim (cases_lt j w.start) [ inl low ↦ inl low | inr past ↦ inr (omega (arith, none, past)) ]) ∙ sym (within_none windows j n so_far.within from))
+    ];
+  }
+
+  -- with the window of the next elements, if it isn't empty
+  pub next_window : (n m : ℕ) (windows : List Window) (w : Window) → n ≤ m → AreWindowsUpTo f xs n windows → IsWindow f xs n m w → AreWindowsUpTo f xs m (cond (nat_lt w.start w.end) (windows ++ w ∷ []) windows)
+  next_window n m windows w le so_far next = elim (cases_lt w.start w.end) [
+    | inl some ↦ subst (λ (b : Bool). AreWindowsUpTo f xs m (cond b (windows ++ w ∷ []) windows)) (sym (lt-ltb w.start w.end some)) (window_more n m windows w le so_far next)
+    | inr none ↦ subst (λ (b : Bool). AreWindowsUpTo f xs m (cond b (windows ++ w ∷ []) windows)) (sym (le-ltb w.start w.end none)) (window_none n m windows w le none so_far next)
+  ]
 
   none_more : (d : Entry) (a k : ℕ) → a + k ≤ length xs → ((j : ℕ) → a ≤ j → j < a + k → f (get_or xs j d) ≡ false) → count_by f (take (a + k) xs) ≡ count_by f (take a xs)
   none_more d a zero le each = ap (λ (n : ℕ). count_by f (take n xs)) (let e : a + 0 ≡ a = omega arith in e)
@@ -80,7 +92,7 @@ module _ (f : Entry → Bool) (xs : List Entry) where
       let rest = all_more d a k (omega (arith, le)) (λ j from lt. each j from (omega (arith, lt))) in
       omega (arith, here, more, rest)
 
-  none_between : (d : Entry) (a b : ℕ) → a ≤ b → b ≤ length xs → ((j : ℕ) → a ≤ j → j < b → f (get_or xs j d) ≡ false) → count_by f (take b xs) ≡ count_by f (take a xs)
+  pub none_between : (d : Entry) (a b : ℕ) → a ≤ b → b ≤ length xs → ((j : ℕ) → a ≤ j → j < b → f (get_or xs j d) ≡ false) → count_by f (take b xs) ≡ count_by f (take a xs)
   none_between d a b le within each =
       let e : b ≡ a + (b - a) = omega (arith, le) in
       ap (λ (n : ℕ). count_by f (take n xs)) e ∙ none_more d a (b - a) (omega (arith, e, within)) (λ j from lt. each j from (omega (arith, lt, le)))

@@ -32,12 +32,13 @@ pub record IsEntry (trace : List Event) (numbers : List ℕ) (entry : Entry) : T
 abbrev pub rivals : List Event → ℕ → Bool → List ℕ
 rivals trace x writes = numbers_where (λ i. accesses_at trace x i && (writes || writes_at trace x i)) (length trace)
 
--- the entries of a thread stand together, rising, and each says where they end
+-- the entries of a thread stand together, rising, and each says where they end; no entry from one on is below its least event
 pub record AreGrouped (entries : List Entry) : Type 0 where
   pub ends : (g : ℕ) (entry : Entry) → slice_get entries g ≡ Some entry → (g < entry.end) × (entry.end ≤ length entries)
   pub same : (g h : ℕ) (entry later : Entry) → slice_get entries g ≡ Some entry → slice_get entries h ≡ Some later → g ≤ h → h < entry.end → (later.thread ≡ entry.thread) × (later.end ≡ entry.end)
   pub rising : (g h : ℕ) (entry later : Entry) → slice_get entries g ≡ Some entry → slice_get entries h ≡ Some later → g < h → h < entry.end → entry.event < later.event
   pub together : (g h : ℕ) (entry later : Entry) → slice_get entries g ≡ Some entry → slice_get entries h ≡ Some later → g ≤ h → later.thread ≡ entry.thread → h < entry.end
+  pub least : (g h : ℕ) (entry later : Entry) → slice_get entries g ≡ Some entry → slice_get entries h ≡ Some later → g ≤ h → entry.least ≤ later.event
 
 -- these are the accesses of x of one kind, each once
 pub record AreEntries (trace : List Event) (numbers : List ℕ) (x : ℕ) (writes : Bool) (entries : List Entry) : Type 0 where

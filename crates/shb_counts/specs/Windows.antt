@@ -1,5 +1,5 @@
 -- The entries of a variable that race with an access: of each thread some that follow each other.
-use Rattle.std.specs.Prelude.{◌≡◌, ◌<◌, ◌≤◌, ◌&&◌, ℕ, Bool, true, false, List, Some, All, AllPairs, length, nat_lt, not, slice_get, slice_index_or}
+use Rattle.std.specs.Prelude.{◌≡◌, ◌<◌, ◌≤◌, ◌^◌, ◌&&◌, ℕ, Bool, true, false, List, Some, All, AllPairs, count_by, length, nat_lt, not, slice_get, slice_index_or, take}
 use Rattle.std.specs.List.{list_any}
 use Rattle.shb_lines.specs.declared.event.Event.{Event}
 use Rattle.shb_lines.specs.events.Order.{IsBelowPredCount}
@@ -22,6 +22,19 @@ pub record AreWindows (trace : List Event) (e : ℕ) (entries : List Entry) (win
   pub within : All (λ window. (window.start ≤ window.end) × (window.end ≤ length entries)) windows
   pub apart : AllPairs (λ one next. one.end ≤ next.start) windows
   pub racing : (j : ℕ) (entry : Entry) → slice_get entries j ≡ Some entry → is_race trace entry.event e ≡ is_within windows j
+
+-- these windows, each after the one before, have those of the first n entries that pass a test, and no others
+pub record AreWindowsUpTo (test : Entry → Bool) (entries : List Entry) (n : ℕ) (windows : List Window) : Type 0 where
+  pub within : All (λ window. (window.start ≤ window.end) × (window.end ≤ n)) windows
+  pub apart : AllPairs (λ one next. one.end ≤ next.start) windows
+  pub passing : (j : ℕ) (entry : Entry) → slice_get entries j ≡ Some entry → j < n → test entry ≡ is_within windows j
+
+-- so many of the first entries race with the event, and these are their windows
+pub record IsLooked (trace : List Event) (e : ℕ) (entries : List Entry) (from races : ℕ) (windows : List Window) : Type 0 where
+  pub within : from ≤ length entries
+  pub few : from < 2 ^ 32
+  pub found : AreWindowsUpTo (λ entry. is_race trace entry.event e) entries from windows
+  pub counted : races ≡ count_by (λ entry. is_race trace entry.event e) (take from entries)
 
 -- from one index up to another events and local times don't fall
 pub record AreRising (entries : List Entry) (from to : ℕ) : Type 0 where

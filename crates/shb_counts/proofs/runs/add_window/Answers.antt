@@ -23,7 +23,7 @@ loop-j-preserved c trace numbers pairs before each at =
     let within = c.requires.within in
     let lt : j < length entries = omega (arith, c.loop-j-test.true, c.loop-j.auto.j-end, within) in
     let le : start ≤ j = c.loop-j.auto.j in
-    let d : Entry = record { thread = 0; event = 0; time = 0; location = 0; end = 0 } in
+    let d : Entry = record { thread = 0; event = 0; time = 0; location = 0; end = 0; least = 0 } in
     let g = race_of c.args.access.event in
     let own = each j d lt in
     subst (λ (l : List Pair). AreSumsOf trace numbers l c.add.new.self.sums.items) (pairs_pushed g pairs (slice_range entries start j) (slice_range entries start (j + 1)) (get_or entries j d) (slice_pushed entries start j d le lt))

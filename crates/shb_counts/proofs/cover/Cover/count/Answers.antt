@@ -15,7 +15,7 @@ overflow_sub-covering c =
     let lt : k < length c.args.entries.now = omega (arith, c.loop-k-test.true, c.loop-k.auto.k-end) in
     let start = c.from-covering.ensures ∙ (c.index.ensures ∙ get_or_default_zero cover.starts.items k c.index.result.now (let size = r.2.sized.starts in omega (arith, lt, size))) in
     let end = c.from-covering-in-loop-k.ensures ∙ (c.index-in-loop-k.ensures ∙ get_or_default_zero cover.ends.items k c.index-in-loop-k.result.now (let size = r.2.sized.ends in omega (arith, lt, size))) in
-    let now = running_is r.0 c.args.entries.now r.1 cover r.2 k c.loop-k.covering (record { thread = 0; event = 0; time = 0; location = 0; end = 0 }) lt c.loop-k.invariant.running in
+    let now = running_is r.0 c.args.entries.now r.1 cover r.2 k c.loop-k.covering (record { thread = 0; event = 0; time = 0; location = 0; end = 0; least = 0 }) lt c.loop-k.invariant.running in
     omega (arith, now, start, end)
 
 pub loop-k-preserved : goal.loop-k-preserved
@@ -27,7 +27,7 @@ loop-k-preserved c =
     let lt : k < length entries = omega (arith, c.loop-k-test.true, c.loop-k.auto.k-end) in
     let start = c.from-covering.ensures ∙ (c.index.ensures ∙ get_or_default_zero cover.starts.items k c.index.result.now (let size = r.2.sized.starts in omega (arith, lt, size))) in
     let end = c.from-covering-in-loop-k.ensures ∙ (c.index-in-loop-k.ensures ∙ get_or_default_zero cover.ends.items k c.index-in-loop-k.result.now (let size = r.2.sized.ends in omega (arith, lt, size))) in
-    let none_there : Entry = record { thread = 0; event = 0; time = 0; location = 0; end = 0 } in
+    let none_there : Entry = record { thread = 0; event = 0; time = 0; location = 0; end = 0; least = 0 } in
     let now = running_is r.0 entries r.1 cover r.2 k c.loop-k.covering none_there lt c.loop-k.invariant.running in
     let few = running_few r.0 entries r.1 cover r.2 k c.loop-k.covering none_there lt c.loop-k.invariant.running in
     record {
