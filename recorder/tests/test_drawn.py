@@ -391,9 +391,9 @@ FAULTS = {  # to plant in the converter: the file, what stands there, and what i
                                                        "else if (0) {"),
     "a write after a read is the same use": ("bundles.c", "s->region * 2 + (writes ? WRITES : 0)",
                                              "s->region * 2"),
-    "late": ("late.c", "const u64 order = its->where % POSITIONS;", "const u64 order = end - first;"),
-    "list_name": ("events.c", "        part name = variable_name(p->at, block", "        part name = "
-                  "variable_name(p->at & ~1ul, block"),
+    "late": ("late.c", "u64 order = its->where % POSITIONS;", "u64 order = end - first;"),
+    "list_name": ("events.c", "        part name = variable_name(p->at, p->block", "        part name = "
+                  "variable_name(p->at & ~1ul, p->block"),
     "shared_lock": ("objects.c", "(o->threads == SEVERAL && (", "(is_atomic(e->operation) && ("),
     "the last section before another thread's": ("objects.c", "orders_others.at[o->section - 1] = orders",
                                                  "orders"),
